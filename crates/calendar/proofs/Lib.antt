@@ -1,0 +1,5 @@
+mod Numbering
+mod YearForm
+mod Promises
+mod Reading
+mod Figures

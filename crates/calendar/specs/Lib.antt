@@ -1,0 +1,4 @@
+pub mod Gregorian
+pub mod Weekdays
+pub mod DateText
+pub mod Laws

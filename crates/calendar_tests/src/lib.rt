@@ -1,0 +1,5 @@
+// Edges of the calendar, by running it.
+#[cfg(test)]
+mod days;
+#[cfg(test)]
+mod texts;
