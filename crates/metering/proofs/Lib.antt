@@ -1,0 +1,15 @@
+pub mod Limits
+pub mod Formed
+pub mod Same
+pub mod Peaks
+pub mod Turns
+pub mod Fields
+pub mod Runs
+pub mod Cutting
+pub mod Judged
+pub mod Lines
+pub mod Rows
+pub mod Tables
+pub mod Headings
+pub mod FirstLine
+pub mod Law

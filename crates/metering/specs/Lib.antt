@@ -1,0 +1,12 @@
+pub mod Readings
+pub mod Refusals
+pub mod Curves
+pub mod Forming
+pub mod Summary
+pub mod Text
+pub mod Places
+pub mod Cells
+pub mod Progress
+pub mod Meaning
+pub mod Machine
+pub mod Export
