@@ -1,0 +1,9 @@
+pub mod Refusals
+pub mod Model
+pub mod Words
+pub mod Rows
+pub mod Making
+pub mod Slots
+pub mod Ring
+pub mod Keeper
+pub mod Journals
