@@ -1,4 +1,6 @@
 // bench: how long a book of the greatest size takes to settle its orders, on a ring and on a full journal.
+#![tactic(auto)]
+
 mod asking;
 mod load;
 mod report;

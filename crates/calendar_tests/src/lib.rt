@@ -1,4 +1,6 @@
 // Edges of the calendar, by running it.
+#![tactic(auto)]
+
 #[cfg(test)]
 mod days;
 #[cfg(test)]

@@ -1,4 +1,6 @@
 // Journals at work: their limits, their bytes, and what drop frees.
+#![tactic(auto)]
+
 #[cfg(test)]
 mod tests {
     use metering::curve::Curve;

@@ -1,4 +1,6 @@
 // june: one pool's June 2026, from its curves to the line of fourteen figures.
+#![tactic(auto)]
+
 mod calls;
 mod report;
 

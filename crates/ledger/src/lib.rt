@@ -1,4 +1,6 @@
 // What a settlement book records and means: terms, resources, orders, declarations; calls, whole lives and their laws.
+#![tactic(auto)]
+
 pub mod days;
 pub mod fault;
 pub mod laws;

@@ -1,4 +1,6 @@
 // Life files: what their lines ask for, and the text of what is answered.
+#![tactic(auto)]
+
 pub mod flaw;
 pub mod line;
 pub mod making;

@@ -1,4 +1,6 @@
 // Life files read line by line, and the lines of their answers.
+#![tactic(auto)]
+
 use ledger::life::Answer;
 use ledger::records::{Month, Outcome};
 use lifefile::flaw::Flaw;

@@ -1,4 +1,6 @@
 // meter: one meter export, where its columns stood and what its day amounts to.
+#![tactic(auto)]
+
 use anyhow::anyhow;
 
 mod report;

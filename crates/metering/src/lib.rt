@@ -1,4 +1,6 @@
 // Readings, curves, and the two ways in which a curve comes to be: three lists, or a meter export.
+#![tactic(auto)]
+
 mod cell;
 pub mod columns;
 pub mod curve;

@@ -1,4 +1,6 @@
 // What importing answers: for the exports named as arguments, and for texts at the edges of the format.
+#![tactic(auto)]
+
 mod edges;
 
 use metering::import::import;

@@ -1,4 +1,6 @@
 // What a refusal tells, the same for every layer: its number, the layer that raised it, and two places.
+#![tactic(auto)]
+
 ghost use Rattle.std.specs.Prelude.{◌≡◌};
 ghost use Rattle.refusals.specs.Matters.{matter_of};
 

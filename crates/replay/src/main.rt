@@ -1,4 +1,6 @@
 // replay: a settlement office's life file, run again through the library.
+#![tactic(auto)]
+
 mod report;
 mod source;
 

@@ -1,4 +1,6 @@
 // Baselines by rule: rounding, what a rulebook is, three rules, the bank of two and the supplied rulebook.
+#![tactic(auto)]
+
 mod bank;
 mod options;
 mod rounding;

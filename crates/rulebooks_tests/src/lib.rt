@@ -1,4 +1,6 @@
 // Edges of the rulebooks, run on numbers; a further rulebook, which takes its place in a bank; a caller of any rulebook.
+#![tactic(auto)]
+
 ghost use Rattle.std.specs.Prelude.{◌≡◌};
 ghost use Rattle.rulebooks_tests.specs.Fixed.{fixed_rules};
 ghost use Rattle.rulebooks_tests.specs.Excess.{excess};

@@ -1,4 +1,6 @@
 // The settlement book: every call on it, and whole lives of it.
+#![tactic(auto)]
+
 pub mod book;
 pub mod live;
 mod tables;

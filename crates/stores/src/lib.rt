@@ -1,4 +1,6 @@
 // Stores of curves: what a store means, and the memories that hold one.
+#![tactic(auto)]
+
 pub mod fault;
 pub mod journal;
 pub mod keeper;

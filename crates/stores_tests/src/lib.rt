@@ -1,4 +1,6 @@
 // Rings and keepers on small and on largest sizes.
+#![tactic(auto)]
+
 use metering::curve::Curve;
 use metering::reading::Reading;
 use std::alloc::{AllocError, Global};

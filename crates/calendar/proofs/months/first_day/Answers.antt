@@ -3,8 +3,8 @@ use Rattle.std.proofs.lemmas.Bool.Decides.{nat_tests}
 use Rattle.calendar.proofs.Promises.{months_in_a_row}
 use Rattle.calendar.proofs.months.first_day.Goals as goal
 
-pub returns-then-is-month : goal.returns-then-is-month
-returns-then-is-month c = record { value = grind (arith, nat_tests); row = months_in_a_row }
+pub returns-then-is_month : goal.returns-then-is_month
+returns-then-is_month c = record { value = grind (arith, nat_tests); row = months_in_a_row }
 
-pub returns-else-is-month : goal.returns-else-is-month
-returns-else-is-month c = record { value = grind (arith, nat_tests); row = months_in_a_row }
+pub returns-else-is_month : goal.returns-else-is_month
+returns-else-is_month c = record { value = grind (arith, nat_tests); row = months_in_a_row }

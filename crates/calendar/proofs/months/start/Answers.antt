@@ -14,5 +14,5 @@ loop-earlier-preserved c =
     let f = first_month c.args.year c.loop-earlier.earlier c.loop-earlier.auto.earlier in
     let t = length_to c.args.year c.loop-earlier.earlier in
     let i = c.loop-earlier.invariant in
-    let m = c.month-length-day.ensures in
+    let m = c.month_length-day.ensures in
     (omega arith, omega arith)

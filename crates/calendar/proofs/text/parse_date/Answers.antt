@@ -4,21 +4,21 @@ use Rattle.calendar.proofs.Numbering.{at}
 use Rattle.calendar.proofs.Reading.{taken, unshaped, no_date, read_back, read_only}
 use Rattle.calendar.proofs.text.parse_date.Goals as goal
 
-pub returns-then-not-is-shaped : goal.returns-then-not-is-shaped
-returns-then-not-is-shaped c =
+pub returns-then-not-is_shaped : goal.returns-then-not-is_shaped
+returns-then-not-is_shaped c =
     let s : is_shaped c.args.text.now ≡ false = cc in
     record { value = sym (unshaped c.args.text.now s); back = read_back; only = read_only }
 
-pub returns-then-is-date : goal.returns-then-is-date
+pub returns-then-is_date : goal.returns-then-is_date
 unfolding written_date
-returns-then-is-date c =
+returns-then-is_date c =
     let s : is_shaped c.args.text.now ≡ true = cc in
-    let e : written_date c.args.text.now ≡ at (c.two-digits.result * 100 + c.two-digits-2.result) c.two-digits-3.result c.two-digits-4.result = cc in
-    record { value = sym (taken c.args.text.now _ s e (sym c.is-date.ensures ∙ c.if-is-date.true)); back = read_back; only = read_only }
+    let e : written_date c.args.text.now ≡ at (c.two_digits.result * 100 + c.two_digits-2.result) c.two_digits-3.result c.two_digits-4.result = cc in
+    record { value = sym (taken c.args.text.now _ s e (sym c.is_date.ensures ∙ c.if-is_date.true)); back = read_back; only = read_only }
 
-pub returns-else-is-date : goal.returns-else-is-date
+pub returns-else-is_date : goal.returns-else-is_date
 unfolding written_date
-returns-else-is-date c =
+returns-else-is_date c =
     let s : is_shaped c.args.text.now ≡ true = cc in
-    let e : written_date c.args.text.now ≡ at (c.two-digits.result * 100 + c.two-digits-2.result) c.two-digits-3.result c.two-digits-4.result = cc in
-    record { value = sym (no_date c.args.text.now _ s e (sym c.is-date.ensures ∙ c.if-is-date.false)); back = read_back; only = read_only }
+    let e : written_date c.args.text.now ≡ at (c.two_digits.result * 100 + c.two_digits-2.result) c.two_digits-3.result c.two_digits-4.result = cc in
+    record { value = sym (no_date c.args.text.now _ s e (sym c.is_date.ensures ∙ c.if-is_date.false)); back = read_back; only = read_only }

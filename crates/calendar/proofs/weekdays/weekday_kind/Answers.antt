@@ -9,5 +9,5 @@ returns-in-0 c = record { value = grind (arith, nat_tests); week = week }
 pub returns-in-1 : goal.returns-in-1
 returns-in-1 c = record { value = grind (arith, nat_tests); week = week }
 
-pub returns-in-default : goal.returns-in-default
-returns-in-default c = record { value = grind (arith, nat_tests); week = week }
+pub returns-in_default : goal.returns-in_default
+returns-in_default c = record { value = grind (arith, nat_tests); week = week }

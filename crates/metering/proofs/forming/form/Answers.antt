@@ -7,6 +7,6 @@ use Rattle.metering.proofs.forming.form.Goals as goal
 pub loop-q-preserved : goal.loop-q-preserved
 loop-q-preserved c k h =
     let m = placed_more c.args.injected.now c.args.drawn.now c.args.marks.now c.loop-q.curve.readings c.loop-q.q
-    c.in-Some.estimated c.in-Some-reading-of.reading c.loop-q.curve.whole c.loop-q-test.true c.in-Some.ensures c.in-Some-reading-of.ensures
+    c.in-Some.estimated c.in-Some-reading_of.reading c.loop-q.curve.whole c.loop-q-test.true c.in-Some.ensures c.in-Some-reading_of.ensures
     c.loop-q.invariant k h in
     m ∙ ap (λ (x : List Reading). Some (reading_in x k)) (sym c.place.ensures)

@@ -10,7 +10,7 @@ returns-then-direction-eq0 c =
     let a : SFits w64 (pos 15 *ℤ c.args.c) = omega (arith, ints) in
     let b : SFits w64 ((pos 15 *ℤ c.args.c) -ℤ c.args.l) = omega (arith, ints) in
     let z : SFits w64 (pos 0) = omega (arith, ints) in
-    let r : SFits w64 c.min.result = record { sfits = c.min.type-inv } in
+    let r : SFits w64 c.min.result = record { sfits = c.min.type_inv } in
     let g = simp to_z-of_z at c.min.ensures.value in
     let t = eq-eqb c.args.direction 0 c.if-direction-eq0.true in
     simp (to_z-of_z, t) g
@@ -22,7 +22,7 @@ returns-else-direction-eq0 c =
     let a : SFits w64 (pos 15 *ℤ c.args.c) = omega (arith, ints) in
     let b : SFits w64 ((pos 15 *ℤ c.args.c) -ℤ c.args.l) = omega (arith, ints) in
     let z : SFits w64 (pos 0) = omega (arith, ints) in
-    let r : SFits w64 c.max.result = record { sfits = c.max.type-inv } in
+    let r : SFits w64 c.max.result = record { sfits = c.max.type_inv } in
     let g = simp to_z-of_z at c.max.ensures.value in
     let t = ne_eqb c.args.direction 0 c.if-direction-eq0.false in
     simp (to_z-of_z, t) g

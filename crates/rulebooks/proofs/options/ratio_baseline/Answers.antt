@@ -14,8 +14,8 @@ fits s c p q = let h = product_size s c p q in omega (arith, ints)
 minus : (x : ℤ) → (pos 0 -ℤ x) ≡ neg_ℤ x
 minus x = omega (arith, ints)
 
-pub overflow-mul-num : goal.overflow-mul-num
-overflow-mul-num c = let fs = c.ranges.s in let fc = c.ranges.c in simp to_z-of_z (fits c.args.s c.args.c c.requires.s_size c.requires.c_size)
+pub overflow_mul-num : goal.overflow_mul-num
+overflow_mul-num c = let fs = c.ranges.s in let fc = c.ranges.c in simp to_z-of_z (fits c.args.s c.args.c c.requires.s_size c.requires.c_size)
 
 pub nearest-requires : goal.nearest-requires
 nearest-requires c =
@@ -30,8 +30,8 @@ nearest-requires c =
     record { positive = omega (arith, ints); den_size = omega (arith, ints); num_size = omega (arith, ints) } in
     simp to_z-of_z r
 
-pub overflow-sub-num : goal.overflow-sub-num
-overflow-sub-num c =
+pub overflow_sub-num : goal.overflow_sub-num
+overflow_sub-num c =
     let fs = c.ranges.s in
     let fc = c.ranges.c in
     let f = fits c.args.s c.args.c c.requires.s_size c.requires.c_size in
@@ -60,10 +60,10 @@ returns-then-l-gt0 c =
     let fl = c.ranges.l in
     let fc = c.ranges.c in
     let f = fits c.args.s c.args.c c.requires.s_size c.requires.c_size in
-    let r : SFits w64 c.nearest.result = record { sfits = c.nearest.type-inv } in
+    let r : SFits w64 c.nearest.result = record { sfits = c.nearest.type_inv } in
     let t = simp to_z-of_z at c.if-l-gt0.true in
     let v = simp to_z-of_z at c.nearest.ensures in
-    let z = simp to_z-of_z at c.within-limit.ensures in
+    let z = simp to_z-of_z at c.within_limit.ensures in
     simp t (z ∙ ap bounded v)
 
 pub returns-then-l-lt0 : goal.returns-then-l-lt0
@@ -75,11 +75,11 @@ returns-then-l-lt0 c =
     let p = product_size c.args.s c.args.c c.requires.s_size c.requires.c_size in
     let a : SFits w64 (pos 0 -ℤ (c.args.s *ℤ c.args.c)) = omega (arith, ints) in
     let b : SFits w64 (pos 0 -ℤ c.args.l) = omega (arith, ints) in
-    let r : SFits w64 c.nearest-then-l-lt0.result = record { sfits = c.nearest-then-l-lt0.type-inv } in
+    let r : SFits w64 c.nearest-then-l-lt0.result = record { sfits = c.nearest-then-l-lt0.type_inv } in
     let t = simp to_z-of_z at c.if-l-gt0.false in
     let u = simp to_z-of_z at c.if-l-lt0.true in
     let v = simp to_z-of_z at c.nearest-then-l-lt0.ensures in
-    let z = simp to_z-of_z at c.within-limit-then-l-lt0.ensures in
+    let z = simp to_z-of_z at c.within_limit-then-l-lt0.ensures in
     let m : rounded (pos 0 -ℤ (c.args.s *ℤ c.args.c)) (pos 0 -ℤ c.args.l) ≡ rounded (neg_ℤ (c.args.s *ℤ c.args.c)) (neg_ℤ c.args.l) =
     simp minus in
     simp (t, u) (z ∙ ap bounded (v ∙ m))

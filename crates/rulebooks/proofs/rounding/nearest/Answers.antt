@@ -11,6 +11,6 @@ returns c =
     let a : SFits w64 (pos 2 *ℤ c.args.num) = omega (arith, ints) in
     let b : SFits w64 ((pos 2 *ℤ c.args.num) +ℤ c.args.den) = omega (arith, ints) in
     let e : SFits w64 (pos 2 *ℤ c.args.den) = omega (arith, ints) in
-    let f : SFits w64 c.div-euclid.result = record { sfits = c.div-euclid.type-inv } in
-    let g = simp to_z-of_z at c.div-euclid.ensures in
+    let f : SFits w64 c.div_euclid.result = record { sfits = c.div_euclid.type_inv } in
+    let g = simp to_z-of_z at c.div_euclid.ensures in
     simp to_z-of_z g

@@ -9,5 +9,5 @@ returns c =
     let fs = c.ranges.s in
     let fl = c.ranges.l in
     let fc = c.ranges.c in
-    let h = simp to_z-of_z at c.if-is-out-of-range.ensures in
-    (in_range_from c.args.direction c.args.s c.args.l c.args.c (sym h), let_on (out_of_range c.args.direction c.args.s c.args.l c.args.c) c.args.days (sym h) c.if-is-none.ensures)
+    let h = simp to_z-of_z at c.if-is_out_of_range.ensures in
+    (in_range_from c.args.direction c.args.s c.args.l c.args.c (sym h), let_on (out_of_range c.args.direction c.args.s c.args.l c.args.c) c.args.days (sym h) c.if-is_none.ensures)

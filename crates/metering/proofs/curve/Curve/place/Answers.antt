@@ -18,16 +18,17 @@ set_either false rs q r = set-get_or rs q _
 set_placed : (rs : List Reading) (q : ℕ) (r v : Reading) → q < 96 → v ≡ cond (within r) r (reading_in rs q) → set rs q v ≡ placed rs q r
 set_placed rs q r v h e = ap (set rs q) e ∙ (set_either (within r) rs q r ∙ sym (cond-true (ltb q 96) _ _ (lt-ltb q 96 h)))
 
-pub invariant-of-self : goal.invariant-of-self
-invariant-of-self c =
+pub invariant_of-self : goal.invariant_of-self
+invariant_of-self c =
     let rs = c.args.self.now.readings in
     let l = c.args.self.now.whole in
     let h = c.if-quarter-lt96.true in
-    let v = c.within-or.result in
-    let w : within v ≡ true = ap within c.within-or.ensures ∙ within_either (within c.args.reading) c.args.reading (reading_in rs c.args.quarter) refl (c.args.self.now.limited c.args.quarter h) in (
-      length-set rs c.args.quarter v ∙ l,
-      (set_within rs c.args.quarter v l h w c.args.self.now.limited, tt),
-    )
+    let v = c.within_or-reading.result in
+    let w : within v ≡ true = ap within c.within_or-reading.ensures ∙ within_either (within c.args.reading) c.args.reading (reading_in rs c.args.quarter) refl (c.args.self.now.limited c.args.quarter h) in
+    record {
+      whole = length-set rs c.args.quarter v ∙ l;
+      limited = set_within rs c.args.quarter v l h w c.args.self.now.limited;
+    }
 
 pub returns-then-quarter-lt96 : goal.returns-then-quarter-lt96
-returns-then-quarter-lt96 c = set_placed c.args.self.now.readings c.args.quarter c.args.reading c.within-or.result c.if-quarter-lt96.true c.within-or.ensures
+returns-then-quarter-lt96 c = set_placed c.args.self.now.readings c.args.quarter c.args.reading c.within_or-reading.result c.if-quarter-lt96.true c.within_or-reading.ensures

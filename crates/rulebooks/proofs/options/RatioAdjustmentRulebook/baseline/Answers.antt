@@ -5,20 +5,20 @@ use Rattle.rulebooks.specs.Options.{ratio_rules}
 use Rattle.rulebooks.specs.RuleLaws.{refused_so, ruled_so}
 use Rattle.rulebooks.proofs.options.RatioAdjustmentRulebook.baseline.Goals as goal
 
-pub returns-in-err-admit : goal.returns-in-err-admit
-returns-in-err-admit c =
+pub returns-in_err-admit : goal.returns-in_err-admit
+returns-in_err-admit c =
     let fs = c.ranges.s in
     let fl = c.ranges.l in
     let fc = c.ranges.c in
-    let p = err_from_is_err_and c.from-residual.result c.from-residual.ensures.1 in
-    rw (p.1, p.2) (refused_so ratio_rules c.args.choice c.args.direction c.args.s c.args.l c.args.c c.days.result c.in-err-admit.field-0.0 c.days.ensures (simp to_z-of_z at c.in-err-admit.ensures))
+    let p = err_from_is_err_and c.from_residual.result c.from_residual.ensures.1 in
+    rw (p.1, p.2) (refused_so ratio_rules c.args.choice c.args.direction c.args.s c.args.l c.args.c c.days.result c.in_err-admit.field-0.0 c.days.ensures (simp to_z-of_z at c.in_err-admit.ensures))
 
 pub returns : goal.returns
 returns c =
     let fs = c.ranges.s in
     let fl = c.ranges.l in
     let fc = c.ranges.c in
-    let a = simp to_z-of_z at c.in-ok-admit.ensures in
-    let e = simp to_z-of_z at c.ratio-baseline.ensures in
-    c.ok-or.ensures.value
-    ∙ ruled_so ratio_rules c.args.choice c.args.direction c.args.s c.args.l c.args.c c.days.result c.ratio-baseline.result c.days.ensures e a.1
+    let a = simp to_z-of_z at c.in_ok-admit.ensures in
+    let e = simp to_z-of_z at c.ratio_baseline.ensures in
+    c.ok_or.ensures.value
+    ∙ ruled_so ratio_rules c.args.choice c.args.direction c.args.s c.args.l c.args.c c.days.result c.ratio_baseline.result c.days.ensures e a.1

@@ -7,6 +7,6 @@ use Rattle.stores.proofs.journal.Journal.memory.Goals as goal
 pub returns : goal.returns
 returns c =
     let j = c.args.self.now in
-    let e = c.as-slice.ensures.value in
+    let e = c.as_slice.ensures.value in
     let P : List ℕ → Type 0 = λ bs. LaidOut bs (rows_of j) (model_of j) in
     record { is = e; layout = subst P (sym e) (laid_out _ _ _ _ _ (standing j)) }

@@ -8,16 +8,16 @@ use Rattle.stores.specs.Meant.{fresh_means, span_whole}
 use Rattle.stores.proofs.journal.Journal.new.Goals as goal
 use Rattle.stores.proofs.journal.Journal.new.Goals.{After-min}
 
-pub invariant-of-result : goal.invariant-of-result
-invariant-of-result c =
+pub invariant_of-result : goal.invariant_of-result
+invariant_of-result c =
     let S = fresh c.args.memory.items 1 0 (omega arith) (λ h. absurd (omega arith)) in
     (omega arith, (omega arith, (omega arith, (omega arith, (S.few, (S.room, (S.laid, (S.blank, (S.single, (S.good, tt))))))))))
 
-pub returns-then-not-is-fit : goal.returns-then-not-is-fit
-returns-then-not-is-fit c =
+pub returns-then-not-is_fit : goal.returns-then-not-is_fit
+returns-then-not-is_fit c =
     let bs = c.args.memory.items in
     let n : c.len-bytes.result ≡ length bs = c.len-bytes.ensures ∙ c.args.memory.ok.0 in
-    let f : fitting (length bs) c.args.width ≡ false = ap (λ m. fitting m c.args.width) (sym n) ∙ sym c.is-fit.ensures ∙ c.if-not-is-fit.true in
+    let f : fitting (length bs) c.args.width ≡ false = ap (λ m. fitting m c.args.width) (sym n) ∙ sym c.is_fit.ensures ∙ c.if-not-is_fit.true in
     record {
       means = fresh_means bs 1 0 1 refl ∙ sym (cond-false (fitting (length bs) c.args.width) _ _ f);
       rows = no_rows bs;
@@ -41,11 +41,11 @@ sure c =
     let ws = c.fill.new.self in
     let cs = take v.len (ws ++ drop (length ws) bs) in
     let n : c.len-bytes.result ≡ length bs = c.len-bytes.ensures ∙ v.ok.0 in
-    let f : fitting (length bs) c.args.width ≡ true = ap (λ m. fitting m c.args.width) (sym n) ∙ sym c.is-fit.ensures ∙ c.if-not-is-fit.false in
+    let f : fitting (length bs) c.args.width ≡ true = ap (λ m. fitting m c.args.width) (sym n) ∙ sym c.is_fit.ensures ∙ c.if-not-is_fit.false in
     let p = and_parts (leb 387 (length bs)) _ f in
     let q = and_parts (leb 1 c.args.width) (leb c.args.width 32) p.1 in
     let l = leb-true 387 (length bs) p.0 in
-    let a : ws ≡ replicate (length bs) 0 = c.fill.ensures.after (λ y e. e) ∙ ap (λ (m : ℕ). replicate m 0) (ap length c.as-mut-slice.ensures.value) in
+    let a : ws ≡ replicate (length bs) 0 = c.fill.ensures.after (λ y e. e) ∙ ap (λ (m : ℕ). replicate m 0) (ap length c.as_mut_slice.ensures.value) in
     let lw : length ws ≡ v.len = ap length a ∙ length-replicate (length bs) 0 ∙ sym v.ok.0 in
     let e : cs ≡ ws = take_at ws (drop (length ws) bs) v.len lw in
     let z : cs ≡ replicate (length bs) 0 = e ∙ a in
@@ -61,9 +61,9 @@ sure c =
       stands = fresh cs c.args.width c.min.result (omega arith) (λ h. z ∙ ap (λ (m : ℕ). replicate m 0) (sym lc));
     }
 
-pub invariant-of-result-2 : goal.invariant-of-result-2
-invariant-of-result-2 c =
-    let s = sure (goal.at.invariant-of-result-2 c).After-min in
+pub invariant_of-result-2 : goal.invariant_of-result-2
+invariant_of-result-2 c =
+    let s = sure (goal.at.invariant_of-result-2 c).After-min in
     let S = s.stands in
     let k = s.capacity-is in
     (s.wide, (s.narrow, (omega arith, (omega arith, (S.few, (S.room, (S.laid, (S.blank, (S.single, (S.good, tt))))))))))

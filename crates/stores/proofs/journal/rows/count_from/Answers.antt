@@ -15,7 +15,7 @@ loop-i-preserved c =
     let f = c.args.day in
     let i = c.loop-i.i in
     let g : ℕ → Row = λ i. row_at bs (387 * i) in
-    elim c.if-day-at-day.branch [
+    elim c.if-day_at-day.branch [
       | then-day-at-day w ↦
           (let e = ap length (kept_yes (since f) g i (le-leb f (day_from bs (387 * i)) (omega arith))) ∙ length_push (filter (since f) (rows_in bs i)) (g i) in
           (omega (arith, e, w.count_is), omega (arith, w.count_is)))

@@ -19,12 +19,12 @@ pub loop-q-preserved : goal.loop-q-preserved
 loop-q-preserved c =
     let q = c.loop-q.q in
     let rs = c.loop-q.curve.readings in
-    let r = c.reading-at.result in
+    let r = c.reading_at.result in
     let e = c.place.ensures in
     let lt : q < 96 = c.loop-q-test.true in (
       below_more (λ k. reading_in c.place.new.self.readings k ≡ limited (reading_from (word_at c.args.bytes.now (c.args.at + 3 + 4 * k)))) q
           (λ k h. let n : k ≢ q = omega arith in ap (λ x. reading_in x k) e ∙ placed_elsewhere rs q k r n ∙ c.loop-q.invariant.0 k h)
-          (ap (λ x. reading_in x q) e ∙ placed_there rs q r c.loop-q.curve.whole lt (c.loop-q.invariant.1 q (omega arith) lt) ∙ ap limited c.reading-at.ensures),
+          (ap (λ x. reading_in x q) e ∙ placed_there rs q r c.loop-q.curve.whole lt (c.loop-q.invariant.1 q (omega arith) lt) ∙ ap limited c.reading_at.ensures),
       (λ k a b. let n : k ≢ q = omega arith in ap (λ x. reading_in x k) e ∙ placed_elsewhere rs q k r n ∙ c.loop-q.invariant.1 k (omega arith) b),
     )
 

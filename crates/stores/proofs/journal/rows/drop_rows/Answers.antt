@@ -13,9 +13,9 @@ loop-i-init c = closing_none c.args.bytes.now c.args.day
 pub loop-i-preserved : goal.loop-i-preserved
 loop-i-preserved c =
     let row : 387 * c.loop-i.i + 387 - 387 * c.loop-i.i ≡ 387 = omega arith in
-    elim c.if-day-at-day.branch [
+    elim c.if-day_at-day.branch [
       | then-day-at-day w ↦ rw (w.bytes-is, w.left-is) (closing_yes _ _ _ c.loop-i.left c.loop-i.i c.args.day c.args.rows c.loop-i.invariant (omega arith) c.loop-i-test.true c.requires.room c.loop-i.auto.bytes c.requires.laid
-          (w.copy-within.ensures.after ∙ ap (paste c.loop-i.bytes (387 * c.loop-i.left) (drop (387 * c.loop-i.i) c.loop-i.bytes)) row))
+          (w.copy_within.ensures.after ∙ ap (paste c.loop-i.bytes (387 * c.loop-i.left) (drop (387 * c.loop-i.i) c.loop-i.bytes)) row))
       | else-day-at-day w ↦ rw (w.bytes-is, w.left-is) (closing_no _ _ c.loop-i.left c.loop-i.i c.args.day c.loop-i.invariant (omega arith))
     ]
 

@@ -8,7 +8,7 @@ use Rattle.stores.proofs.journal.rows.write_row.Goals as goal
 pub loop-i-preserved : goal.loop-i-preserved
 loop-i-preserved c =
     let at = 3 + 4 * c.loop-i.i in
-    let e : c.put-reading.new.row ≡ take at c.loop-i.row ++ (reading_bytes (get_or c.args.readings.now c.loop-i.i (Measured (pos 0))) ++ drop (at + 4) c.loop-i.row) = c.put-reading.ensures in
+    let e : c.put_reading.new.row ≡ take at c.loop-i.row ++ (reading_bytes (get_or c.args.readings.now c.loop-i.i (Measured (pos 0))) ++ drop (at + 4) c.loop-i.row) = c.put_reading.ensures in
     one_more c.loop-i.row _ (c.args.resource ∷ two c.args.day) c.args.readings.now at (3 + 4 * (c.loop-i.i + 1)) c.loop-i.i (Measured (pos 0)) _
     e refl (omega (arith, c.requires.size, c.requires.full)) c.loop-i-test.true (omega arith) c.loop-i.invariant
 

@@ -28,28 +28,28 @@ told g c =
     let e = c.if-day-floor.false in
     let f = c.floor.ensures in
     record {
-      last = c.if-day-gt-LAST-DAY.false;
+      last = c.if-day-gt-LAST_DAY.false;
       resource = omega arith;
       above = omega arith;
       free = sym c.holds.ensures ∙ c.if-holds.false;
       floor = c.max-floor.ensures
-          ∙ (ap (λ (x : ℕ). max x c.saturating-sub.result) c.floor-2.ensures
-          ∙ (ap (max m.floor) c.saturating-sub.ensures
+          ∙ (ap (λ (x : ℕ). max x c.saturating_sub.result) c.floor-2.ensures
+          ∙ (ap (max m.floor) c.saturating_sub.ensures
           ∙ (ap (λ (x : ℕ). max m.floor (d + 1 - x)) c.min-span.ensures
           ∙ ap (λ (x : ℕ). max m.floor (d + 1 - min s x)) c.span.ensures)));
     }
 
-pub returns-then-held-from-capacity : goal.returns-then-held-from-capacity
-returns-then-held-from-capacity g c =
+pub returns-then-held_from-capacity : goal.returns-then-held_from-capacity
+returns-then-held_from-capacity g c =
     let s = c.args.self.now.span in
     let m : StoreModel = g.S.Store.model c.args.self.now.below in
     let r = c.args.resource in
     let d = c.args.day in
-    let t = told g (goal.at.returns-then-held-from-capacity g c).After-capacity in
-    let h : held_from (kept s m) (new_floor (kept s m) d) ≡ c.held-from.result =
-    kept_held s m (new_floor (kept s m) d) ∙ (ap (held_from m) (sym t.floor) ∙ sym c.held-from.ensures) in
+    let t = told g (goal.at.returns-then-held_from-capacity g c).After-capacity in
+    let h : held_from (kept s m) (new_floor (kept s m) d) ≡ c.held_from.result =
+    kept_held s m (new_floor (kept s m) d) ∙ (ap (held_from m) (sym t.floor) ∙ sym c.held_from.ensures) in
     let k = c.capacity.ensures in
-    let l = c.if-held-from-capacity.true in
+    let l = c.if-held_from-capacity.true in
     let e : put_answer (kept s m) r d ≡ Err (Full r d) = put_full (kept s m) r d t.last t.resource t.above t.free (omega arith) in
     record {
       answer = sym e;
@@ -66,16 +66,16 @@ returns g c =
     let d = c.args.day in
     let f = c.max-floor.result in
     let t = told g (goal.at.returns g c).After-capacity in
-    let l = c.if-held-from-capacity.false in
+    let l = c.if-held_from-capacity.false in
     let k = c.capacity.ensures in
-    let h = c.held-from.ensures in
+    let h = c.held_from.ensures in
     let b = g.met.S.Store.bounded c.args.self.now.below in
     let p = c.args.self.now.spans.0 in
     let q = b.span_from in
     let room : held_from m f < m.capacity = omega (arith, l, k, h) in
     let w = granted s m r d c.args.curve.now f p b t.last t.resource t.above t.free t.floor room in
-    let o = kept_put s m (g.S.Store.model c.drop-before.new.self) (g.S.Store.model c.put.new.self) r d c.args.curve.now f c.put.result w
-    (omega (arith, t.last, t.above, t.floor)) c.drop-before.ensures.after c.put.ensures.answer c.put.ensures.after in
+    let o = kept_put s m (g.S.Store.model c.drop_before.new.self) (g.S.Store.model c.put.new.self) r d c.args.curve.now f c.put.result w
+    (omega (arith, t.last, t.above, t.floor)) c.drop_before.ensures.after c.put.ensures.answer c.put.ensures.after in
     record {
       answer = o.0;
       after = o.1;

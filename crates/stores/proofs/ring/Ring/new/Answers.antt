@@ -8,7 +8,7 @@ use Rattle.stores.specs.Ring.{ring_fits, ring_model}
 use Rattle.stores.specs.Tested.{each_heads, each_words}
 use Rattle.stores.proofs.Pinning.{blank_heads, blank_words, blank_model, idle_model}
 use Rattle.stores.proofs.ring.Ring.new.Goals as goal
-use Rattle.stores.proofs.ring.Ring.new.Goals.{After-is-err, After-fill}
+use Rattle.stores.proofs.ring.Ring.new.Goals.{After-is_err, After-fill}
 
 record Fits (words width span : ℕ) : Type 0 where
   from : 1 ≤ width
@@ -34,11 +34,11 @@ granted true h = refl
 granted false h = absurd (both_ways true h refl)
 
 -- what the test told
-told : (c : After-is-err) → c.is-err.result ≡ is_err (fit_answer (ring_fits (length (vec_items c.args.memory)) c.args.width c.args.span))
-told c = c.is-err.ensures.value ∙ (ap is_err c.ring-fits.ensures ∙ ap (λ (n : ℕ). is_err (fit_answer (ring_fits n c.args.width c.args.span))) (c.len.ensures ∙ c.args.memory.ok.0))
+told : (c : After-is_err) → c.is_err.result ≡ is_err (fit_answer (ring_fits (length (vec_items c.args.memory)) c.args.width c.args.span))
+told c = c.is_err.ensures.value ∙ (ap is_err c.ring_fits.ensures ∙ ap (λ (n : ℕ). is_err (fit_answer (ring_fits n c.args.width c.args.span))) (c.len.ensures ∙ c.args.memory.ok.0))
 
-pub invariant-of-result : goal.invariant-of-result
-invariant-of-result c =
+pub invariant_of-result : goal.invariant_of-result
+invariant_of-result c =
     let ws = vec_items c.args.memory in (
       omega arith,
       (
@@ -56,9 +56,9 @@ invariant-of-result c =
       ),
     )
 
-pub returns-then-is-err : goal.returns-then-is-err
-returns-then-is-err c =
-    let f = refused _ (sym (told (goal.at.returns-then-is-err c).After-is-err) ∙ c.if-is-err.true) in
+pub returns-then-is_err : goal.returns-then-is_err
+returns-then-is_err c =
+    let f = refused _ (sym (told (goal.at.returns-then-is_err c).After-is_err) ∙ c.if-is_err.true) in
     record {
       meaning = idle_model (vec_items c.args.memory) ∙ sym (cond-false _ _ _ f);
       words = sym (cond-false _ _ _ f);
@@ -66,17 +66,17 @@ returns-then-is-err c =
 
 zeroed : (c : After-fill) → (with_items c.args.memory c.fill.new.self).items ≡ replicate (length (vec_items c.args.memory)) (pos 0)
 zeroed c =
-    let a = c.as-mut-slice.ensures in
+    let a = c.as_mut_slice.ensures in
     let l : length c.fill.new.self ≡ c.args.memory.len = c.fill.ensures.len ∙ a.len in
     with_items_is c.args.memory c.fill.new.self l ∙ (c.fill.ensures.after (λ y e. e) ∙ ap (λ (n : ℕ). replicate n (pos 0)) (a.len ∙ c.args.memory.ok.0))
 
-pub invariant-of-result-2 : goal.invariant-of-result-2
-invariant-of-result-2 c =
+pub invariant_of-result-2 : goal.invariant_of-result-2
+invariant_of-result-2 c =
     let v = c.args.memory in
     let w = c.args.width in
     let s = c.args.span in
-    let f = fits (length (vec_items v)) w s (granted _ (sym (told (goal.at.invariant-of-result-2 c).After-is-err) ∙ c.if-is-err.false)) in
-    let z = sym (zeroed (goal.at.invariant-of-result-2 c).After-fill) in
+    let f = fits (length (vec_items v)) w s (granted _ (sym (told (goal.at.invariant_of-result-2 c).After-is_err) ∙ c.if-is_err.false)) in
+    let z = sym (zeroed (goal.at.invariant_of-result-2 c).After-fill) in
     let H : List ℤ → Type 0 = λ ws. heads_fit w s 0 (0 + s) ws ≡ true in
     let W : List ℤ → Type 0 = λ ws. words_fit w s ws ≡ true in
     let l = v.ok.0 in
@@ -102,7 +102,7 @@ returns c =
     let v = c.args.memory in
     let w = c.args.width in
     let s = c.args.span in
-    let g = granted _ (sym (told (goal.at.returns c).After-is-err) ∙ c.if-is-err.false) in
+    let g = granted _ (sym (told (goal.at.returns c).After-is_err) ∙ c.if-is_err.false) in
     let z = zeroed (goal.at.returns c).After-fill in
     record {
       meaning = ap (λ (ws : List ℤ). ring_model w s 0 ws) z ∙ (blank_model w s (length (vec_items v)) (fits (length (vec_items v)) w s g).from ∙ sym (cond-true _ _ _ g));

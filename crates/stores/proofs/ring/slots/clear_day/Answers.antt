@@ -7,7 +7,7 @@ loop-r-init c = (day_none c.args.rows c.args.span c.args.day c.args.words.now, Î
 
 pub loop-r-preserved : goal.loop-r-preserved
 loop-r-preserved c = (
-  day_more c.loop-r.r c.args.rows c.args.span c.args.day c.slot-of.result c.args.words.now c.loop-r.words c.clear-slot.new.words
-      (omega arith) c.slot-of.ensures.is c.loop-r.invariant.0 c.clear-slot.ensures,
+  day_more c.loop-r.r c.args.rows c.args.span c.args.day c.slot_of.result c.args.words.now c.loop-r.words c.clear_slot.new.words
+      (omega arith) c.slot_of.ensures.is c.loop-r.invariant.0 c.clear_slot.ensures,
   Î» e. absurd (omega arith),
 )

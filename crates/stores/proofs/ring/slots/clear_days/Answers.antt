@@ -11,9 +11,9 @@ loop-day-init c = (
 
 pub loop-day-preserved : goal.loop-day-preserved
 loop-day-preserved c = (
-  cleared_more c.args.rows c.args.span c.loop-day.day (c.args.floor + c.args.span) c.loop-day.words c.clear-day.new.words _
-      (omega arith) (omega arith) c.loop-day.invariant.0 c.clear-day.ensures.cleared,
-  λ e. c.clear-day.ensures.idle e ∙ c.loop-day.invariant.1 e,
+  cleared_more c.args.rows c.args.span c.loop-day.day (c.args.floor + c.args.span) c.loop-day.words c.clear_day.new.words _
+      (omega arith) (omega arith) c.loop-day.invariant.0 c.clear_day.ensures.cleared,
+  λ e. c.clear_day.ensures.idle e ∙ c.loop-day.invariant.1 e,
 )
 
 ends : (d end floor to span : ℕ) → end ≡ min to (floor + span) → (floor ≤ end → d ≤ end) → end ≤ d → floor ≤ to → (d ≤ to) × ((d ≡ to) ⊎ (floor + span ≤ d))

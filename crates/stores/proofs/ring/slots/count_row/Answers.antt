@@ -5,7 +5,7 @@ use Rattle.stores.specs.Slots.{ring_look, is_day, head_at, slot_at}
 use Rattle.stores.specs.Turning.{look_here, look_other}
 use Rattle.stores.specs.Days.{held_at, none_before, one_here, none_here}
 use Rattle.stores.proofs.ring.slots.count_row.Goals as goal
-use Rattle.stores.proofs.ring.slots.count_row.Goals.{then-is-day, else-is-day}
+use Rattle.stores.proofs.ring.slots.count_row.Goals.{then-is_day, else-is_day}
 
 pub loop-day-init : goal.loop-day-init
 loop-day-init c = (
@@ -18,13 +18,13 @@ pub loop-day-preserved : goal.loop-day-preserved
 loop-day-preserved c =
     let look = ring_look c.args.rows c.args.span c.args.words.now c.args.resource in
     let d = c.loop-day.day in
-    let i : c.is-day.result ≡ is_day (head_at c.args.words.now (slot_at c.args.span c.args.resource (d % c.args.span))) d =
-    c.is-day.ensures ∙ ap (λ (a : ℕ). is_day (head_at c.args.words.now a) d) c.slot-of.ensures.is in
+    let i : c.is_day.result ≡ is_day (head_at c.args.words.now (slot_at c.args.span c.args.resource (d % c.args.span))) d =
+    c.is_day.ensures ∙ ap (λ (a : ℕ). is_day (head_at c.args.words.now a) d) c.slot_of.ensures.is in
     let v = c.loop-day.invariant in
-    elim c.if-is-day.branch [
-      | then-is-day w ↦ (let s = one_here c.args.first look d _ c.loop-day.auto.day (look_here c.args.rows c.args.span c.args.words.now c.args.resource d c.requires.resource (sym i ∙ w.if-is-day.true)) in
+    elim c.if-is_day.branch [
+      | then-is_day w ↦ (let s = one_here c.args.first look d _ c.loop-day.auto.day (look_here c.args.rows c.args.span c.args.words.now c.args.resource d c.requires.resource (sym i ∙ w.if-is_day.true)) in
           (omega (arith, s, v.0, w.count_is), omega (arith, v.1, w.count_is), λ p. absurd (omega (arith, c.loop-day.auto.day, c.loop-day-test.true))))
-      | else-is-day w ↦ (let s = none_here c.args.first look d c.loop-day.auto.day (look_other c.args.rows c.args.span c.args.words.now c.args.resource d (sym i ∙ w.if-is-day.false)) in
+      | else-is_day w ↦ (let s = none_here c.args.first look d c.loop-day.auto.day (look_other c.args.rows c.args.span c.args.words.now c.args.resource d (sym i ∙ w.if-is_day.false)) in
           (omega (arith, s, v.0, w.count_is), omega (arith, v.1, w.count_is), λ p. absurd (omega (arith, c.loop-day.auto.day, c.loop-day-test.true))))
     ]
 

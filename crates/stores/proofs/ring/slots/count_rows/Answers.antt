@@ -15,4 +15,4 @@ pub loop-resource-preserved : goal.loop-resource-preserved
 loop-resource-preserved c =
     let f : ℕ → ℕ = λ r. sum_below (held_at c.args.first (ring_look c.args.rows c.args.span c.args.words.now r)) c.args.end in
     let s = sum_more f c.loop-resource.resource in
-    (omega (arith, s, c.count-row-count.ensures.is, c.loop-resource.invariant.0), omega (arith, c.count-row-count.ensures.few, c.loop-resource.invariant.1))
+    (omega (arith, s, c.count_row-count.ensures.is, c.loop-resource.invariant.0), omega (arith, c.count_row-count.ensures.few, c.loop-resource.invariant.1))

@@ -22,7 +22,7 @@ pub loop-q-preserved : goal.loop-q-preserved
 loop-q-preserved c =
     let z : ℤ = word_at c.args.words.now c.args.base c.loop-q.q in
     let f : SFits w32 z = search rules in
-    let r : c.reading-from.result ≡ reading_from z = simp to_z-of_z at c.reading-from.ensures in
+    let r : c.reading_from.result ≡ reading_from z = simp to_z-of_z at c.reading_from.ensures in
     more (λ q. reading_from (word_at c.args.words.now c.args.base q)) c.loop-q.curve.readings c.place.new.self.readings c.loop-q.q
     c.loop-q.curve.whole c.loop-q-test.true (c.requires.limited c.loop-q.q c.loop-q-test.true) (c.place.ensures ∙ ap (placed c.loop-q.curve.readings c.loop-q.q) r) c.loop-q.invariant
 

@@ -21,10 +21,10 @@ found rows span r d base ws hs hr words room e i =
       look = look_here rows span ws r d hr j ∙ sym (ap (λ a. Some (curve_from (word_at ws a))) e);
     }
 
-pub returns-then-is-day : goal.returns-then-is-day
-returns-then-is-day c = found c.args.rows c.args.span c.args.resource c.args.day c.slot-of-base.result c.args.words.now
-    (omega arith) (omega arith) c.requires.words (omega (arith, c.slot-of-base.ensures.within, c.requires.room)) c.slot-of-base.ensures.is (sym c.is-day.ensures ∙ c.if-is-day.true)
+pub returns-then-is_day : goal.returns-then-is_day
+returns-then-is_day c = found c.args.rows c.args.span c.args.resource c.args.day c.slot_of-base.result c.args.words.now
+    (omega arith) (omega arith) c.requires.words (omega (arith, c.slot_of-base.ensures.within, c.requires.room)) c.slot_of-base.ensures.is (sym c.is_day.ensures ∙ c.if-is_day.true)
 
-pub returns-else-is-day : goal.returns-else-is-day
-returns-else-is-day c = look_other c.args.rows c.args.span c.args.words.now c.args.resource c.args.day
-    (ap (λ (a : ℕ). is_day (head_at c.args.words.now a) c.args.day) (sym c.slot-of-base.ensures.is) ∙ (sym c.is-day.ensures ∙ c.if-is-day.false))
+pub returns-else-is_day : goal.returns-else-is_day
+returns-else-is_day c = look_other c.args.rows c.args.span c.args.words.now c.args.resource c.args.day
+    (ap (λ (a : ℕ). is_day (head_at c.args.words.now a) c.args.day) (sym c.slot_of-base.ensures.is) ∙ (sym c.is_day.ensures ∙ c.if-is_day.false))

@@ -12,7 +12,7 @@ use Rattle.stores.specs.Journals.{row_of, rows_of, model_of, meaning}
 use Rattle.stores.specs.Standing.{Put, put}
 use Rattle.stores.specs.Meant.{standing, full_test, put_means, curve_fine}
 use Rattle.stores.proofs.journal.holding.JournalStore.put.Goals as goal
-use Rattle.stores.proofs.journal.holding.JournalStore.put.Goals.{After-append-row}
+use Rattle.stores.proofs.journal.holding.JournalStore.put.Goals.{After-append_row}
 
 -- the answer where nothing but a full journal can refuse
 answer : (j : Journal) (r d : ℕ) → d ≤ 36524 → r < j.width → j.floor ≤ d → held_in (rows_of j) r d ≡ None
@@ -29,7 +29,7 @@ returns-then-rows-self c =
     let s = c.args.self.now in
     let r = c.args.resource in
     let d = c.args.day in
-    let free : held_in (rows_of s) r d ≡ None = ap (λ (bs : List ℕ). held_in (rows_in bs s.rows) r d) (sym c.as-slice.ensures.value) ∙ c.in-default.ensures in
+    let free : held_in (rows_of s) r d ≡ None = ap (λ (bs : List ℕ). held_in (rows_in bs s.rows) r d) (sym c.as_slice.ensures.value) ∙ c.in_default.ensures in
     let t = le-leb s.capacity s.rows c.if-rows-self.true in
     let a : Err (Full r d) ≡ put_answer (model_of s) r d = sym (answer s r d c.if-day-gt36524.false c.if-resource-self.false c.if-day-self.false free ∙ simp t) in
     record { answer = a; after = ap (λ x. unless x (model_of s) (put_into (model_of s) r d c.args.curve.now)) a; rows = refl; memory = refl }
@@ -39,32 +39,32 @@ record Sure (j : Journal) (r d : ℕ) (c : Curve) (bs : List ℕ) : Type 0 where
   ok : fine j.width j.floor (row_of r d c) ≡ true
   done : Put j.bytes.items bs j.width j.capacity j.floor j.rows (row_of r d c)
 
-sure : (c : After-append-row) → Sure c.args.self.now c.args.resource c.args.day c.args.curve.now (take c.args.self.now.bytes.len (c.append-row.new.bytes ++ drop (length c.append-row.new.bytes) c.args.self.now.bytes.items))
+sure : (c : After-append_row) → Sure c.args.self.now c.args.resource c.args.day c.args.curve.now (take c.args.self.now.bytes.len (c.append_row.new.bytes ++ drop (length c.append_row.new.bytes) c.args.self.now.bytes.items))
 sure c =
     let s = c.args.self.now in
     let r = c.args.resource in
     let d = c.args.day in
     let v = s.bytes in
     let bs = v.items in
-    let ws = c.append-row.new.bytes in
+    let ws = c.append_row.new.bytes in
     let e = row_of r d c.args.curve.now in
-    let a = c.as-mut-slice.ensures.value in
-    let free : held_in (rows_of s) r d ≡ None = ap (λ (xs : List ℕ). held_in (rows_in xs s.rows) r d) (sym c.as-slice.ensures.value) ∙ c.in-default.ensures in
+    let a = c.as_mut_slice.ensures.value in
+    let free : held_in (rows_of s) r d ≡ None = ap (λ (xs : List ℕ). held_in (rows_in xs s.rows) r d) (sym c.as_slice.ensures.value) ∙ c.in_default.ensures in
     let ok = curve_fine s.width s.floor r d c.args.curve.now c.if-resource-self.false c.if-day-self.false c.if-day-gt36524.false in
     let q : ws ≡ take (387 * s.rows) bs ++ (row_bytes e ++ drop (387 * s.rows + 387) bs) =
-    c.append-row.ensures
+    c.append_row.ensures
     ∙ ap (λ (xs : List ℕ). take (387 * s.rows) xs ++ (row_bytes (record { resource = r; day = d; readings = c.readings.result.now }) ++ drop (387 * s.rows + 387) xs)) a
     ∙ ap (λ (rs : List Reading). take (387 * s.rows) bs ++ (row_bytes (record { resource = r; day = d; readings = rs }) ++ drop (387 * s.rows + 387) bs)) c.readings.ensures in
-    let lw : length ws ≡ length bs = c.append-row.auto.bytes ∙ ap length a in
+    let lw : length ws ≡ length bs = c.append_row.auto.bytes ∙ ap length a in
     let p = put bs ws s.width s.capacity s.floor s.rows e (standing s) c.if-rows-self.false ok free lw q in
     let t : ws ≡ take v.len (ws ++ drop (length ws) bs) = sym (take_at ws (drop (length ws) bs) v.len (lw ∙ sym v.ok.0)) in
     let P : List ℕ → Type 0 = λ xs. Put bs xs s.width s.capacity s.floor s.rows e in
     record { free = free; ok = ok; done = subst P t p }
 
-pub invariant-of-self : goal.invariant-of-self
-invariant-of-self c =
+pub invariant_of-self : goal.invariant_of-self
+invariant_of-self c =
     let s = c.args.self.now in
-    let S = (sure (goal.at.invariant-of-self c).After-append-row).done.stands in
+    let S = (sure (goal.at.invariant_of-self c).After-append_row).done.stands in
     (s.wide, (s.narrow, (s.most, (s.low, (S.few, (S.room, (S.laid, (S.blank, (S.single, (S.good, tt))))))))))
 
 pub returns : goal.returns
@@ -73,7 +73,7 @@ returns c =
     let r = c.args.resource in
     let d = c.args.day in
     let k = c.args.curve.now in
-    let S = sure (goal.at.returns c).After-append-row in
+    let S = sure (goal.at.returns c).After-append_row in
     let lt : s.rows < s.capacity = c.if-rows-self.false in
     let t = lt-leb s.capacity s.rows lt in
     let a : Ok tt ≡ put_answer (model_of s) r d = sym (answer s r d c.if-day-gt36524.false c.if-resource-self.false c.if-day-self.false S.free ∙ simp t) in

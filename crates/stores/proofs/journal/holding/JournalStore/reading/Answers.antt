@@ -12,6 +12,6 @@ returns c =
     let i = c.in-Some.i in
     let q = c.args.quarter in
     let F : List ℕ → Type 0 = λ xs. held_in (rows_in xs s.rows) c.args.resource c.args.day ≡ Some (curve_of (row_at xs (387 * i)).readings) in
-    let f = subst F c.as-slice.ensures.value c.in-Some.ensures.1 in
-    let w : c.reading-at.result ≡ reading_from (word_at bs (387 * i + 3 + 4 * q)) = c.reading-at.ensures ∙ ap (λ (xs : List ℕ). reading_from (word_at xs (387 * i + 3 + 4 * q))) c.as-slice-2.ensures.value in
+    let f = subst F c.as_slice.ensures.value c.in-Some.ensures.1 in
+    let w : c.reading_at.result ≡ reading_from (word_at bs (387 * i + 3 + 4 * q)) = c.reading_at.ensures ∙ ap (λ (xs : List ℕ). reading_from (word_at xs (387 * i + 3 + 4 * q))) c.as_slice-2.ensures.value in
     ap Some w ∙ sym (ap (λ o. reading_held o q) f ∙ row_reading bs s.width s.capacity s.floor s.rows i q (standing s) c.in-Some.ensures.0 c.if-quarter-ge96.false)

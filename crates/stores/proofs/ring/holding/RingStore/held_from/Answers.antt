@@ -8,5 +8,5 @@ returns c =
     let s = c.args.self.now in
     let ws = vec_items s.words in
     count_at s.rows s.span s.floor ws s.spans.0 (heads_each s.rows s.span s.floor (s.floor + s.span) ws s.heads)
-    c.args.day c.count-rows.result c.max.result c.min-end.result c.as-slice.result.now
-    c.count-rows.ensures c.as-slice.ensures.value c.max.ensures c.min-end.ensures
+    c.args.day c.count_rows.result c.max.result c.min-end.result c.as_slice.result.now
+    c.count_rows.ensures c.as_slice.ensures.value c.max.ensures c.min-end.ensures

@@ -3,10 +3,10 @@ use Rattle.stores.specs.Slots.{WordsFit}
 use Rattle.stores.specs.Tested.{words_each}
 use Rattle.stores.proofs.ring.holding.RingStore.holds.Goals as goal
 
-pub find-slot-requires : goal.find-slot-requires
-find-slot-requires c =
+pub find_slot-requires : goal.find_slot-requires
+find_slot-requires c =
     let s = c.args.self.now in
-    let a = c.as-slice.ensures in
+    let a = c.as_slice.ensures in
     let W : List ℤ → Type 0 = λ ws. WordsFit s.rows s.span ws in
     record {
       rows = s.few;

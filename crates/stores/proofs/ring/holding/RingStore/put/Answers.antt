@@ -10,7 +10,7 @@ use Rattle.stores.specs.Holding.{put_is, room_left}
 use Rattle.stores.specs.Tested.{heads_each, words_each, each_heads, each_words}
 use Rattle.stores.specs.Verdicts.{put_granted, not_held}
 use Rattle.stores.proofs.ring.holding.RingStore.put.Goals as goal
-use Rattle.stores.proofs.ring.holding.RingStore.put.Goals.{After-max-floor, After-put-curve}
+use Rattle.stores.proofs.ring.holding.RingStore.put.Goals.{After-max-floor, After-put_curve}
 
 -- what the tests and the new floor tell
 record Told (rows span floor r d to : ℕ) : Type 0 where
@@ -25,12 +25,12 @@ record Told (rows span floor r d to : ℕ) : Type 0 where
 told : (c : After-max-floor) → Told c.args.self.now.rows c.args.self.now.span c.args.self.now.floor c.args.resource c.args.day c.max-floor.result
 told c =
     let s = c.args.self.now in
-    let a = c.if-day-gt-LAST-DAY.false in
+    let a = c.if-day-gt-LAST_DAY.false in
     let b = c.if-resource-width.false in
     let w = c.width.ensures in
     let d = c.if-day-self.false in
     let n = c.if-self-eq0.false in
-    let x = c.saturating-sub.ensures in
+    let x = c.saturating_sub.ensures in
     let m = c.max-floor.ensures in
     let p = s.spans.0 in
     record {
@@ -43,11 +43,11 @@ told c =
       is = m ∙ ap (max s.floor) x;
     }
 
-pub put-curve-requires : goal.put-curve-requires
-put-curve-requires c =
+pub put_curve-requires : goal.put_curve-requires
+put_curve-requires c =
     let s = c.args.self.now in
-    let a = c.as-mut-slice.ensures in
-    let t = told (goal.at.put-curve-requires c).After-max-floor in
+    let a = c.as_mut_slice.ensures in
+    let t = told (goal.at.put_curve-requires c).After-max-floor in
     let H : List ℤ → Type 0 = λ ws. HeadsFit s.rows s.span s.floor (s.floor + s.span) ws in
     let W : List ℤ → Type 0 = λ ws. WordsFit s.rows s.span ws in
     record {
@@ -56,34 +56,34 @@ put-curve-requires c =
       span_to = s.spans.1;
       room = omega (arith, s.room, a.len);
       rises = t.rises;
-      to-from = t.from;
-      to-to = t.before;
+      to_from = t.from;
+      to_to = t.before;
       last = t.last;
       resource = t.resource;
       heads = subst H (sym a.value) (heads_each s.rows s.span s.floor (s.floor + s.span) (vec_items s.words) s.heads);
       words = subst W (sym a.value) (words_each s.rows s.span (vec_items s.words) s.readings);
     }
 
-stored : (c : After-put-curve) → (with_items c.args.self.now.words c.put-curve.new.words).items ≡ c.put-curve.new.words
-stored c = with_items_is c.args.self.now.words c.put-curve.new.words (c.put-curve.auto.words ∙ c.as-mut-slice.ensures.len)
+stored : (c : After-put_curve) → (with_items c.args.self.now.words c.put_curve.new.words).items ≡ c.put_curve.new.words
+stored c = with_items_is c.args.self.now.words c.put_curve.new.words (c.put_curve.auto.words ∙ c.as_mut_slice.ensures.len)
 
-means : (c : After-put-curve) → Means c.args.self.now.rows c.args.self.now.span c.max-floor.result (c.max-floor.result + c.args.self.now.span)
-    c.put-curve.new.words
+means : (c : After-put_curve) → Means c.args.self.now.rows c.args.self.now.span c.max-floor.result (c.max-floor.result + c.args.self.now.span)
+    c.put_curve.new.words
     (cut_under c.max-floor.result (gained c.args.resource c.args.day c.args.curve.now (ring_look c.args.self.now.rows c.args.self.now.span (vec_items c.args.self.now.words))))
 means c =
     let s = c.args.self.now in
     let to = c.max-floor.result in
-    let M : List ℤ → Type 0 = λ ws. Means s.rows s.span to (to + s.span) c.put-curve.new.words
+    let M : List ℤ → Type 0 = λ ws. Means s.rows s.span to (to + s.span) c.put_curve.new.words
     (cut_under to (gained c.args.resource c.args.day c.args.curve.now (ring_look s.rows s.span ws))) in
-    subst M c.as-mut-slice.ensures.value c.put-curve.ensures
+    subst M c.as_mut_slice.ensures.value c.put_curve.ensures
 
-pub invariant-of-self : goal.invariant-of-self
-invariant-of-self c =
+pub invariant_of-self : goal.invariant_of-self
+invariant_of-self c =
     let s = c.args.self.now in
     let to = c.max-floor.result in
-    let t = told (goal.at.invariant-of-self c).After-max-floor in
-    let e = sym (stored (goal.at.invariant-of-self c).After-put-curve) in
-    let m = means (goal.at.invariant-of-self c).After-put-curve in
+    let t = told (goal.at.invariant_of-self c).After-max-floor in
+    let e = sym (stored (goal.at.invariant_of-self c).After-put_curve) in
+    let m = means (goal.at.invariant_of-self c).After-put_curve in
     let H : List ℤ → Type 0 = λ ws. heads_fit s.rows s.span to (to + s.span) ws ≡ true in
     let W : List ℤ → Type 0 = λ ws. words_fit s.rows s.span ws ≡ true in (
       s.few,
@@ -112,7 +112,7 @@ returns c =
     let t = told (goal.at.returns c).After-max-floor in
     let old : StoreModel = ring_model s.rows s.span s.floor ws in
     let heads = heads_each s.rows s.span s.floor (s.floor + s.span) ws s.heads in
-    let e = stored (goal.at.returns c).After-put-curve in
+    let e = stored (goal.at.returns c).After-put_curve in
     let n : is_some (ring_look s.rows s.span ws r d) ≡ false = sym c.holds.ensures ∙ c.if-holds.false in
     let R : ℕ → Type 0 = λ f. held_from old f < s.rows * s.span in
     let room : held_from old (new_floor old d) < s.rows * s.span =
@@ -121,7 +121,7 @@ returns c =
     record {
       answer = sym g;
       after = ap (λ (xs : List ℤ). ring_model s.rows s.span to xs) e
-          ∙ (put_is s.rows s.span s.floor ws s.spans.0 heads to r d _ c.args.curve.now t.is (means (goal.at.returns c).After-put-curve)
+          ∙ (put_is s.rows s.span s.floor ws s.spans.0 heads to r d _ c.args.curve.now t.is (means (goal.at.returns c).After-put_curve)
           ∙ sym (ap (λ (a : Result (Unit {0}) StoreFault). unless a old (put_into old r d c.args.curve.now)) g));
       refused = λ h. absurd (both_ways true h refl);
     }
