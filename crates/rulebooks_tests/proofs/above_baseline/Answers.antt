@@ -5,15 +5,15 @@ use Rattle.rulebooks.specs.RuleLaws.{answer_within}
 use Rattle.rulebooks_tests.specs.Excess.{excess}
 use Rattle.rulebooks_tests.proofs.above_baseline.Goals as goal
 
-pub overflow-sub-result : goal.overflow-sub-result
-overflow-sub-result g c =
+pub overflow_sub-result : goal.overflow_sub-result
+overflow_sub-result g c =
     let fs = c.ranges.s in
     let fl = c.ranges.l in
     let fc = c.ranges.c in
     let fr = c.ranges.reading in
     let R = g.R.Rulebook.rules c.args.rules.now in
-    let z = c.in-ok-baseline.baseline in
-    let e : Ok z ≡ answered R c.args.choice c.args.direction c.args.s c.args.l c.args.c = simp to_z-of_z at c.in-ok-baseline.ensures in
+    let z = c.in_ok-baseline.baseline in
+    let e : Ok z ≡ answered R c.args.choice c.args.direction c.args.s c.args.l c.args.c = simp to_z-of_z at c.in_ok-baseline.ensures in
     let w : nat_abs z ≤ 10_000_000 = answer_within R (g.met.R.Rulebook.lawful c.args.rules.now) c.args.choice c.args.direction c.args.s c.args.l c.args.c z (sym e) in
     let fz : SFits w64 z = omega (arith, ints) in
     let v : c.from.result ≡ c.args.reading = simp to_z-of_z at c.from.ensures in
@@ -28,8 +28,8 @@ returns g c =
     let fc = c.ranges.c in
     let fr = c.ranges.reading in
     let R = g.R.Rulebook.rules c.args.rules.now in
-    let z = c.in-ok-baseline.baseline in
-    let e : Ok z ≡ answered R c.args.choice c.args.direction c.args.s c.args.l c.args.c = simp to_z-of_z at c.in-ok-baseline.ensures in
+    let z = c.in_ok-baseline.baseline in
+    let e : Ok z ≡ answered R c.args.choice c.args.direction c.args.s c.args.l c.args.c = simp to_z-of_z at c.in_ok-baseline.ensures in
     let w : nat_abs z ≤ 10_000_000 = answer_within R (g.met.R.Rulebook.lawful c.args.rules.now) c.args.choice c.args.direction c.args.s c.args.l c.args.c z (sym e) in
     let fz : SFits w64 z = omega (arith, ints) in
     let v : c.from.result ≡ c.args.reading = simp to_z-of_z at c.from.ensures in

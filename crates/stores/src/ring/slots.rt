@@ -167,7 +167,7 @@ pub fn count_rows(words: &[i32], rows: u32, span: u32, first: u32, end: u32) -> 
     requires span_to { span ≤ 400 }
     requires room { 97 * (rows * span) ≤ length words.now }
     requires end { end ≤ 36525 }
-    ensures* { λ r. ⌜ r ≡ sum_below (λ r. sum_below (λ k. (if nat_le first k then one (ring_look rows span words.now r k) else 0)) end) rows ⌝ }
+    ensures { result ≡ sum_below (λ r. sum_below (λ k. (if nat_le first k then one (ring_look rows span words.now r k) else 0)) end) rows }
 {
     let mut count = 0;
     for resource in 0..rows {

@@ -22,7 +22,7 @@ returns-then-direction-eq0 c =
     let fs = c.ranges.s in
     let fl = c.ranges.l in
     let fc = c.ranges.c in
-    let a = simp to_z-of_z at c.in-ok-admit.ensures in
+    let a = simp to_z-of_z at c.in_ok-admit.ensures in
     let e = ap given (sym (eq-eqb c.args.direction 0 c.if-direction-eq0.true)) in
     ruled_so fixed_rules c.args.choice c.args.direction c.args.s c.args.l c.args.c c.days.result (Some (pos 10_000_000)) c.days.ensures e a.1
 
@@ -31,6 +31,6 @@ returns-else-direction-eq0 c =
     let fs = c.ranges.s in
     let fl = c.ranges.l in
     let fc = c.ranges.c in
-    let a = simp to_z-of_z at c.in-ok-admit.ensures in
+    let a = simp to_z-of_z at c.in_ok-admit.ensures in
     let e = ap given (sym (ne_eqb c.args.direction 0 c.if-direction-eq0.false)) in
     ruled_so fixed_rules c.args.choice c.args.direction c.args.s c.args.l c.args.c c.days.result None c.days.ensures e a.1

@@ -11,7 +11,18 @@ use Rattle.stores.proofs.journal.Journal.new.Goals.{After-min}
 pub invariant_of-result : goal.invariant_of-result
 invariant_of-result c =
     let S = fresh c.args.memory.items 1 0 (omega arith) (λ h. absurd (omega arith)) in
-    (omega arith, (omega arith, (omega arith, (omega arith, (S.few, (S.room, (S.laid, (S.blank, (S.single, (S.good, tt))))))))))
+    record {
+      wide = omega arith;
+      narrow = omega arith;
+      most = omega arith;
+      low = omega arith;
+      few = S.few;
+      room = S.room;
+      laid = S.laid;
+      blank = S.blank;
+      single = S.single;
+      good = S.good;
+    }
 
 pub returns-then-not-is_fit : goal.returns-then-not-is_fit
 returns-then-not-is_fit c =
@@ -65,8 +76,19 @@ pub invariant_of-result-2 : goal.invariant_of-result-2
 invariant_of-result-2 c =
     let s = sure (goal.at.invariant_of-result-2 c).After-min in
     let S = s.stands in
-    let k = s.capacity-is in
-    (s.wide, (s.narrow, (omega arith, (omega arith, (S.few, (S.room, (S.laid, (S.blank, (S.single, (S.good, tt))))))))))
+    let k = s.capacity_is in
+    record {
+      wide = s.wide;
+      narrow = s.narrow;
+      most = omega arith;
+      low = omega arith;
+      few = S.few;
+      room = S.room;
+      laid = S.laid;
+      blank = S.blank;
+      single = S.single;
+      good = S.good;
+    }
 
 pub returns : goal.returns
 returns c =
@@ -75,7 +97,7 @@ returns c =
     let s = sure (goal.at.returns c).After-min in
     let f = s.fit in
     record {
-      means = fresh_means _ w c.min.result 36525 (span_whole c.min.result s.some) ∙ ap (λ k. made_fresh w k 36525) s.capacity-is ∙ sym (cond-true (fitting (length bs) w) _ _ f);
+      means = fresh_means _ w c.min.result 36525 (span_whole c.min.result s.some) ∙ ap (λ k. made_fresh w k 36525) s.capacity_is ∙ sym (cond-true (fitting (length bs) w) _ _ f);
       rows = no_rows (take c.args.memory.len (c.fill.new.self ++ drop (length c.fill.new.self) bs));
       memory = s.zeros ∙ sym (cond-true (fitting (length bs) w) _ _ f);
     }

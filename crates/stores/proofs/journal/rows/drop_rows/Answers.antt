@@ -5,7 +5,7 @@ use Rattle.stores.specs.Rows.{rows_in, since, written}
 use Rattle.stores.specs.Closing.{Closing, closing_none, closing_yes, closing_no}
 use Rattle.stores.proofs.Writing.{mid}
 use Rattle.stores.proofs.journal.rows.drop_rows.Goals as goal
-use Rattle.stores.proofs.journal.rows.drop_rows.Goals.{then-day-at-day, else-day-at-day}
+use Rattle.stores.proofs.journal.rows.drop_rows.Goals.{then-day_at-day, else-day_at-day}
 
 pub loop-i-init : goal.loop-i-init
 loop-i-init c = closing_none c.args.bytes.now c.args.day
@@ -14,9 +14,9 @@ pub loop-i-preserved : goal.loop-i-preserved
 loop-i-preserved c =
     let row : 387 * c.loop-i.i + 387 - 387 * c.loop-i.i ≡ 387 = omega arith in
     elim c.if-day_at-day.branch [
-      | then-day-at-day w ↦ rw (w.bytes-is, w.left-is) (closing_yes _ _ _ c.loop-i.left c.loop-i.i c.args.day c.args.rows c.loop-i.invariant (omega arith) c.loop-i-test.true c.requires.room c.loop-i.auto.bytes c.requires.laid
+      | then-day_at-day w ↦ rw (w.bytes-is, w.left-is) (closing_yes _ _ _ c.loop-i.left c.loop-i.i c.args.day c.args.rows c.loop-i.invariant (omega arith) c.loop-i-test.true c.requires.room c.loop-i.auto.bytes c.requires.laid
           (w.copy_within.ensures.after ∙ ap (paste c.loop-i.bytes (387 * c.loop-i.left) (drop (387 * c.loop-i.i) c.loop-i.bytes)) row))
-      | else-day-at-day w ↦ rw (w.bytes-is, w.left-is) (closing_no _ _ c.loop-i.left c.loop-i.i c.args.day c.loop-i.invariant (omega arith))
+      | else-day_at-day w ↦ rw (w.bytes-is, w.left-is) (closing_no _ _ c.loop-i.left c.loop-i.i c.args.day c.loop-i.invariant (omega arith))
     ]
 
 pub returns : goal.returns

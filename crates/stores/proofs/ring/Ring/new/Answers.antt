@@ -39,22 +39,16 @@ told c = c.is_err.ensures.value ∙ (ap is_err c.ring_fits.ensures ∙ ap (λ (n
 
 pub invariant_of-result : goal.invariant_of-result
 invariant_of-result c =
-    let ws = vec_items c.args.memory in (
-      omega arith,
-      (
-        (omega arith, omega arith),
-        (
-          omega arith,
-          (
-            omega arith,
-            (
-              (λ h. absurd (omega arith)),
-              (each_heads 0 1 0 1 ws (λ r s h l. absurd (omega arith)), (each_words 0 1 ws (λ r s q h l k. absurd (omega arith)), tt)),
-            ),
-          ),
-        ),
-      ),
-    )
+    let ws = vec_items c.args.memory in
+    record {
+      few = omega arith;
+      spans = (omega arith, omega arith);
+      low = omega arith;
+      room = omega arith;
+      exact = (λ h. absurd (omega arith));
+      heads = each_heads 0 1 0 1 ws (λ r s h l. absurd (omega arith));
+      readings = each_words 0 1 ws (λ r s q h l k. absurd (omega arith));
+    }
 
 pub returns-then-is_err : goal.returns-then-is_err
 returns-then-is_err c =
@@ -80,22 +74,16 @@ invariant_of-result-2 c =
     let H : List ℤ → Type 0 = λ ws. heads_fit w s 0 (0 + s) ws ≡ true in
     let W : List ℤ → Type 0 = λ ws. words_fit w s ws ≡ true in
     let l = v.ok.0 in
-    let e = f.exact in (
-      f.to,
-      (
-        (f.span_from, f.span_to),
-        (
-          omega arith,
-          (
-            omega arith,
-            (
-              (λ h. l ∙ f.exact),
-              (subst H z (each_heads w s 0 (0 + s) _ (blank_heads w s 0 (0 + s) (length (vec_items v)))), (subst W z (each_words w s _ (blank_words w s (length (vec_items v)))), tt)),
-            ),
-          ),
-        ),
-      ),
-    )
+    let e = f.exact in
+    record {
+      few = f.to;
+      spans = (f.span_from, f.span_to);
+      low = omega arith;
+      room = omega arith;
+      exact = (λ h. l ∙ f.exact);
+      heads = subst H z (each_heads w s 0 (0 + s) _ (blank_heads w s 0 (0 + s) (length (vec_items v))));
+      readings = subst W z (each_words w s _ (blank_words w s (length (vec_items v))));
+    }
 
 pub returns : goal.returns
 returns c =

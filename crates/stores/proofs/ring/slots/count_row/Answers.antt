@@ -23,9 +23,9 @@ loop-day-preserved c =
     let v = c.loop-day.invariant in
     elim c.if-is_day.branch [
       | then-is_day w ↦ (let s = one_here c.args.first look d _ c.loop-day.auto.day (look_here c.args.rows c.args.span c.args.words.now c.args.resource d c.requires.resource (sym i ∙ w.if-is_day.true)) in
-          (omega (arith, s, v.0, w.count_is), omega (arith, v.1, w.count_is), λ p. absurd (omega (arith, c.loop-day.auto.day, c.loop-day-test.true))))
+          (omega (arith, s, v.0, w.count-is), omega (arith, v.1, w.count-is), λ p. absurd (omega (arith, c.loop-day.auto.day, c.loop-day-test.true))))
       | else-is_day w ↦ (let s = none_here c.args.first look d c.loop-day.auto.day (look_other c.args.rows c.args.span c.args.words.now c.args.resource d (sym i ∙ w.if-is_day.false)) in
-          (omega (arith, s, v.0, w.count_is), omega (arith, v.1, w.count_is), λ p. absurd (omega (arith, c.loop-day.auto.day, c.loop-day-test.true))))
+          (omega (arith, s, v.0, w.count-is), omega (arith, v.1, w.count-is), λ p. absurd (omega (arith, c.loop-day.auto.day, c.loop-day-test.true))))
     ]
 
 pub returns : goal.returns

@@ -37,7 +37,18 @@ invariant_of-self c =
     let ws = c.drop_rows-left.new.bytes in
     let P : ℕ → Type 0 = λ f. Standing (take s.bytes.len (ws ++ drop (length ws) s.bytes.items)) s.width s.capacity f c.drop_rows-left.result in
     let T = subst P (sym m) S in
-    (s.wide, (s.narrow, (s.most, (omega (arith, s.low, c.if-day-gt36524.false), (T.few, (T.room, (T.laid, (T.blank, (T.single, (T.good, tt))))))))))
+    record {
+      wide = s.wide;
+      narrow = s.narrow;
+      most = s.most;
+      low = omega (arith, s.low, c.if-day-gt36524.false);
+      few = T.few;
+      room = T.room;
+      laid = T.laid;
+      blank = T.blank;
+      single = T.single;
+      good = T.good;
+    }
 
 pub returns : goal.returns
 returns c =

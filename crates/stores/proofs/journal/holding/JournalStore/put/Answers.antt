@@ -65,7 +65,18 @@ pub invariant_of-self : goal.invariant_of-self
 invariant_of-self c =
     let s = c.args.self.now in
     let S = (sure (goal.at.invariant_of-self c).After-append_row).done.stands in
-    (s.wide, (s.narrow, (s.most, (s.low, (S.few, (S.room, (S.laid, (S.blank, (S.single, (S.good, tt))))))))))
+    record {
+      wide = s.wide;
+      narrow = s.narrow;
+      most = s.most;
+      low = s.low;
+      few = S.few;
+      room = S.room;
+      laid = S.laid;
+      blank = S.blank;
+      single = S.single;
+      good = S.good;
+    }
 
 pub returns : goal.returns
 returns c =

@@ -85,22 +85,16 @@ invariant_of-self c =
     let e = sym (stored (goal.at.invariant_of-self c).After-put_curve) in
     let m = means (goal.at.invariant_of-self c).After-put_curve in
     let H : List ℤ → Type 0 = λ ws. heads_fit s.rows s.span to (to + s.span) ws ≡ true in
-    let W : List ℤ → Type 0 = λ ws. words_fit s.rows s.span ws ≡ true in (
-      s.few,
-      (
-        s.spans,
-        (
-          omega (arith, t.from, t.last),
-          (
-            s.room,
-            (
-              s.exact,
-              (subst H e (each_heads s.rows s.span to (to + s.span) _ m.heads), (subst W e (each_words s.rows s.span _ m.words), tt)),
-            ),
-          ),
-        ),
-      ),
-    )
+    let W : List ℤ → Type 0 = λ ws. words_fit s.rows s.span ws ≡ true in
+    record {
+      few = s.few;
+      spans = s.spans;
+      low = omega (arith, t.from, t.last);
+      room = s.room;
+      exact = s.exact;
+      heads = subst H e (each_heads s.rows s.span to (to + s.span) _ m.heads);
+      readings = subst W e (each_words s.rows s.span _ m.words);
+    }
 
 pub returns : goal.returns
 returns c =
