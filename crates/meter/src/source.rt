@@ -39,7 +39,7 @@ pub fn from_file(rt: &HostRuntime, path: &str) -> anyhow::Result<Vec<u8>> {
         Ok(bytes) => Ok(bytes),
         Err(e) => {
             let words = format!(in rt.alloc(); "{path} cannot be read: {e}")?;
-            Err(words.into())
+            Err(anyhow!("{words}"))
         }
     }
 }

@@ -17,7 +17,7 @@ overflow_sub-result g c =
     let w : nat_abs z ≤ 10_000_000 = answer_within R (g.met.R.Rulebook.lawful c.args.rules.now) c.args.choice c.args.direction c.args.s c.args.l c.args.c z (sym e) in
     let fz : SFits w64 z = omega (arith, ints) in
     let v : c.from.result ≡ c.args.reading = simp to_z-of_z at c.from.ensures in
-    let ff : SFits w64 c.from.result = record { sfits = c.from.type-inv } in
+    let ff : SFits w64 c.from.result = record { sfits = c.from.type_inv } in
     let d : SFits w64 (c.from.result -ℤ z) = omega (arith, ints) in
     simp to_z-of_z d
 
@@ -33,6 +33,6 @@ returns g c =
     let w : nat_abs z ≤ 10_000_000 = answer_within R (g.met.R.Rulebook.lawful c.args.rules.now) c.args.choice c.args.direction c.args.s c.args.l c.args.c z (sym e) in
     let fz : SFits w64 z = omega (arith, ints) in
     let v : c.from.result ≡ c.args.reading = simp to_z-of_z at c.from.ensures in
-    let ff : SFits w64 c.from.result = record { sfits = c.from.type-inv } in
+    let ff : SFits w64 c.from.result = record { sfits = c.from.type_inv } in
     let d : SFits w64 (c.from.result -ℤ z) = omega (arith, ints) in
     simp to_z-of_z (ap (λ x. Ok (x -ℤ z)) v ∙ ap (excess c.args.reading) e)

@@ -9,13 +9,13 @@ use Rattle.rulebooks_tests.proofs.FixedRulebook.baseline.Goals as goal
 abbrev given : Bool → Option ℤ
 given b = cond b (Some (pos 10_000_000)) None
 
-pub returns-in-err-admit : goal.returns-in-err-admit
-returns-in-err-admit c =
+pub returns-in_err-admit : goal.returns-in_err-admit
+returns-in_err-admit c =
     let fs = c.ranges.s in
     let fl = c.ranges.l in
     let fc = c.ranges.c in
-    let p = err_from_is_err_and c.from-residual.result c.from-residual.ensures.1 in
-    rw (p.1, p.2) (refused_so fixed_rules c.args.choice c.args.direction c.args.s c.args.l c.args.c c.days.result c.in-err-admit.field-0.0 c.days.ensures (simp to_z-of_z at c.in-err-admit.ensures))
+    let p = err_from_is_err_and c.from_residual.result c.from_residual.ensures.1 in
+    rw (p.1, p.2) (refused_so fixed_rules c.args.choice c.args.direction c.args.s c.args.l c.args.c c.days.result c.in_err-admit.field-0.0 c.days.ensures (simp to_z-of_z at c.in_err-admit.ensures))
 
 pub returns-then-direction-eq0 : goal.returns-then-direction-eq0
 returns-then-direction-eq0 c =
