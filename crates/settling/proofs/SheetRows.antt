@@ -145,7 +145,7 @@ along_more f xs i d ws ws' sum sum' est est' y h a q ew es ee =
     let P : Granted (List Part) → Type 0 = λ m. Along m ws' sum' est' in
     subst P (sym s) (
       evidence_push A.list G.one ∙ (ap (λ (us : List ℤ). us ++ evidence_row G.one) A.rows ∙ (ap (λ (us : List ℤ). ws ++ us) G.row ∙ sym ew)),
-      total_push (λ p. p.amount) A.list G.one ∙ (ap (λ (z : ℤ). z +ℤ G.one.amount) A.total_is ∙ (ap (λ (z : ℤ). sum +ℤ z) G.amount-is ∙ sym es)),
+      total_push (λ p. p.amount) A.list G.one ∙ (ap (λ (z : ℤ). z +ℤ G.one.amount) A.total_is ∙ (ap (λ (z : ℤ). sum +ℤ z) G.amount_is ∙ sym es)),
       any_push A.list G.one ∙ (ap (λ (b : Bool). b || G.one.estimated) A.mark ∙ (ap (λ (b : Bool). est || b) G.mark ∙ sym ee)),
     )
 

@@ -16,6 +16,6 @@ returns c =
       c.inner-11.ensures,
       c.inner-12.ensures,
       c.inner-13.ensures,
-      c.saturating-sub.ensures,
+      c.saturating_sub.ensures,
       c.percent.ensures,
     )

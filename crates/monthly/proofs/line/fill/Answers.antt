@@ -12,7 +12,7 @@ pub loop-figure-preserved : goal.loop-figure-preserved
 unfolding cells
 loop-figure-preserved c =
     let i = c.loop-figure.invariant in
-    let w = c.put-cell-at.ensures in
+    let w = c.put_cell-at.ensures in
     let p = line_more c.args.out.now c.loop-figure.out _ _ _ _ c.loop-figure.at _ i.1 i.2 w.bytes w.end (joined_step cell c.args.figures.now c.loop-figure.figure-index blank c.loop-figure-test.true) in
     (omega (arith, i.0, w.within), p.0, p.1)
 

@@ -11,6 +11,6 @@ returns c =
     let t = cells c.args.figures.now in
     let l : leb (length t) (length c.args.out.now) ≡ true = le-leb _ _ (omega (arith, w.length)) in
     let z : n - 0 ≡ n = omega arith in
-    let a = simp z at c.copy-from-slice.ensures.after in
+    let a = simp z at c.copy_from_slice.ensures.after in
     let p = front c.args.out.now _ _ t _ n w.length w.bytes a in
     record { value = ap Ok w.length ∙ sym (cond-true _ _ _ l); bytes = simp z (p ∙ sym (cond-true _ _ _ l)) }

@@ -11,5 +11,5 @@ line_is t m = simp append_assoc
 
 pub returns : goal.returns
 returns c =
-    let e = ap cells c.cells-of-cells.ensures ∙ line_is c.args.terms.now c.args.figures.now in
-    record { value = simp e at c.write-cells.ensures.value; bytes = simp e at c.write-cells.ensures.bytes }
+    let e = ap cells c.cells_of-cells.ensures ∙ line_is c.args.terms.now c.args.figures.now in
+    record { value = simp e at c.write_cells.ensures.value; bytes = simp e at c.write_cells.ensures.bytes }

@@ -1,8 +1,8 @@
 use Rattle.std.proofs.Common.{◌*◌, ◌≤◌, mul-le-mul, arith}
 use Rattle.monthly.proofs.month.figures.Goals as goal
 
-pub overflow-mul-di-2 : goal.overflow-mul-di-2
-overflow-mul-di-2 c =
+pub overflow_mul-di-2 : goal.overflow_mul-di-2
+overflow_mul-di-2 c =
     let t = c.args.terms.now in
     let p : c.args.di * t.qc ≤ 2976 * 128000 = mul-le-mul c.requires.di t.power_to in
     let q : c.args.di * t.qc * t.af ≤ 2976 * 128000 * 100000 = mul-le-mul p t.power_price in

@@ -5,7 +5,7 @@ use Rattle.settling.proofs.evidence.history_row.Goals as goal
 
 pub returns : goal.returns
 returns c =
-    let fn = c.ranges.lead-now in
-    let ft = c.ranges.lead-then in
-    let n : length c.filled-row.result ≡ 19 = search rules in
-    row_is c.filled-row.result c.args.days.now c.args.lead-now c.args.lead-then n (simp to_z-of_z at c.filled-row.ensures)
+    let fn = c.ranges.lead_now in
+    let ft = c.ranges.lead_then in
+    let n : length c.filled_row.result ≡ 19 = search rules in
+    row_is c.filled_row.result c.args.days.now c.args.lead_now c.args.lead_then n (simp to_z-of_z at c.filled_row.ensures)

@@ -4,4 +4,4 @@ use Rattle.settling.proofs.Search.{lead_ordered}
 use Rattle.settling.proofs.history.is_clean.Goals as goal
 
 pub returns : goal.returns
-returns c = c.is-measured-in.ensures ∙ ap (measured_in c.args.curve.now) (lead_ordered c.args.order c.requires)
+returns c = c.is_measured_in.ensures ∙ ap (measured_in c.args.curve.now) (lead_ordered c.args.order c.requires)

@@ -12,4 +12,4 @@ returns-in-Some g c =
     }
 
 pub loop-day-preserved : goal.loop-day-preserved
-loop-day-preserved g c = (c.loop-day.invariant.0 ∙ passing_no _ c.args.low c.loop-day.day (omega arith) c.in-default.ensures, omega arith)
+loop-day-preserved g c = (c.loop-day.invariant.0 ∙ passing_no _ c.args.low c.loop-day.day (omega arith) c.in_default.ensures, omega arith)

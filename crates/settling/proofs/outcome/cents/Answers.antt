@@ -8,8 +8,8 @@ use Rattle.settling.proofs.outcome.cents.Goals as goal
 whole : (n : ℕ) → n ≤ 307200000000000 → to_z w64 n ≡ pos n
 whole n h = omega (arith, ints)
 
-pub overflow-cast-energy : goal.overflow-cast-energy
-overflow-cast-energy c =
+pub overflow_cast-energy : goal.overflow_cast-energy
+overflow_cast-energy c =
     let m = price_bound c.args.energy c.args.uf c.requires.size c.requires.price in
     omega (arith, ints)
 

@@ -20,45 +20,45 @@ near_c z h = record { low = omega (arith, ints); high = omega (arith, ints) }
 
 sure : (g : over.Over) (c : After-contribution g) →
     given (by_sums (g.R.Rulebook.rules c.args.rules.now) (summed_in (curves_of c.args.days.now)) c.args.order c.args.number c.args.resource c.args.curve.now (days_of c.args.days.now))
-    ≡ (c.contribution.result >>= shown (days_of c.args.days.now) c.lead-on-c.result c.lead-over-l.result)
+    ≡ (c.contribution.result >>= shown (days_of c.args.days.now) c.lead_on-c.result c.lead_over-l.result)
 sure g c =
-    let fl : SFits w64 c.lead-over-l.result = search rules in
-    let fc : SFits w64 c.lead-on-c.result = search rules in
+    let fl : SFits w64 c.lead_over-l.result = search rules in
+    let fc : SFits w64 c.lead_on-c.result = search rules in
     history_is (g.R.Rulebook.rules c.args.rules.now) (summed_in (curves_of c.args.days.now)) c.args.order c.args.number c.args.resource c.args.curve.now (days_of c.args.days.now)
-    c.lead-over-l.result c.lead-on-c.result c.contribution.result
-    c.lead-over-l.ensures.value c.lead-on-c.ensures.value (simp to_z-of_z at c.contribution.ensures.value)
+    c.lead_over-l.result c.lead_on-c.result c.contribution.result
+    c.lead_over-l.ensures.value c.lead_on-c.ensures.value (simp to_z-of_z at c.contribution.ensures.value)
 
-pub lead-over-l-requires : goal.lead-over-l-requires
-lead-over-l-requires g c = record { few = table_few c.args.days.now.curves c.args.days.now.count c.requires.few; placed = c.requires.placed }
+pub lead_over-l-requires : goal.lead_over-l-requires
+lead_over-l-requires g c = record { few = table_few c.args.days.now.curves c.args.days.now.count c.requires.few; placed = c.requires.placed }
 
 pub contribution-requires : goal.contribution-requires
 contribution-requires g c = record { few = table_few c.args.days.now.curves c.args.days.now.count c.requires.few; placed = c.requires.placed }
 
-pub history-row-requires : goal.history-row-requires
-history-row-requires g c = record { few = table_few c.args.days.now.at c.args.days.now.count c.requires.few; known = table_known c.args.days.now.at c.args.days.now.count c.requires.known }
+pub history_row-requires : goal.history_row-requires
+history_row-requires g c = record { few = table_few c.args.days.now.at c.args.days.now.count c.requires.few; known = table_known c.args.days.now.at c.args.days.now.count c.requires.known }
 
-pub returns-in-err-amount : goal.returns-in-err-amount
-returns-in-err-amount g c =
-    let q = err_from_is_err_and c.from-residual.result c.from-residual.ensures.1 in
-    let s = sure g (goal.at.returns-in-err-amount g c).After-contribution ∙ ap (λ (v : Granted ℤ). v >>= shown (days_of c.args.days.now) c.lead-on-c.result c.lead-over-l.result) c.in-err-amount.was in
+pub returns-in_err-amount : goal.returns-in_err-amount
+returns-in_err-amount g c =
+    let q = err_from_is_err_and c.from_residual.result c.from_residual.ensures.1 in
+    let s = sure g (goal.at.returns-in_err-amount g c).After-contribution ∙ ap (λ (v : Granted ℤ). v >>= shown (days_of c.args.days.now) c.lead_on-c.result c.lead_over-l.result) c.in_err-amount.was in
     record { value = q.1 ∙ (ap (λ (e : BookFault). Err e) q.2 ∙ sym s); within = rw q.1 tt }
 
-pub overflow-cast-c : goal.overflow-cast-c
-overflow-cast-c g c = let w = c.lead-on-c.ensures.within in omega (arith, ints)
+pub overflow_cast-c : goal.overflow_cast-c
+overflow_cast-c g c = let w = c.lead_on-c.ensures.within in omega (arith, ints)
 
-pub overflow-cast-l : goal.overflow-cast-l
-overflow-cast-l g c = let w = c.lead-over-l.ensures.within in omega (arith, ints)
+pub overflow_cast-l : goal.overflow_cast-l
+overflow_cast-l g c = let w = c.lead_over-l.ensures.within in omega (arith, ints)
 
 pub returns : goal.returns
 returns g c =
     let days = days_of c.args.days.now in
-    let s = sure g (goal.at.returns g c).After-contribution ∙ ap (λ (v : Granted ℤ). v >>= shown days c.lead-on-c.result c.lead-over-l.result) c.in-ok-amount.was in
-    let n = c.in-ok-amount.ensures.within in
-    let k = kept c.in-ok-amount.amount n in
-    let ec : to_z w32 (of_z w32 (to_z w64 (of_z w64 c.lead-on-c.result))) ≡ c.lead-on-c.result = narrowed _ (near_c _ c.lead-on-c.ensures.within) in
-    let el : to_z w32 (of_z w32 (to_z w64 (of_z w64 c.lead-over-l.result))) ≡ c.lead-over-l.result = narrowed _ c.lead-over-l.ensures.within in
-    let w : c.history-row.result ≡ history_row days c.lead-on-c.result c.lead-over-l.result =
-    c.history-row.ensures ∙ (ap (λ (z : ℤ). history_row days z (to_z w32 (of_z w32 (to_z w64 (of_z w64 c.lead-over-l.result))))) ec ∙ ap (history_row days c.lead-on-c.result) el) in
+    let s = sure g (goal.at.returns g c).After-contribution ∙ ap (λ (v : Granted ℤ). v >>= shown days c.lead_on-c.result c.lead_over-l.result) c.in_ok-amount.was in
+    let n = c.in_ok-amount.ensures.within in
+    let k = kept c.in_ok-amount.amount n in
+    let ec : to_z w32 (of_z w32 (to_z w64 (of_z w64 c.lead_on-c.result))) ≡ c.lead_on-c.result = narrowed _ (near_c _ c.lead_on-c.ensures.within) in
+    let el : to_z w32 (of_z w32 (to_z w64 (of_z w64 c.lead_over-l.result))) ≡ c.lead_over-l.result = narrowed _ c.lead_over-l.ensures.within in
+    let w : c.history_row.result ≡ history_row days c.lead_on-c.result c.lead_over-l.result =
+    c.history_row.ensures ∙ (ap (λ (z : ℤ). history_row days z (to_z w32 (of_z w32 (to_z w64 (of_z w64 c.lead_over-l.result))))) ec ∙ ap (history_row days c.lead_on-c.result) el) in
     let mk : List ℤ → ℤ → Granted Settled = λ ws z. Ok (record { row = ws; estimated = false; amount = z }) in
     let N : ℤ → Type 0 = λ z. Near 1056000000 z in
-    record { value = ap (mk c.history-row.result) k ∙ (ap (λ (ws : List ℤ). mk ws c.in-ok-amount.amount) w ∙ sym s); within = subst N (sym k) n }
+    record { value = ap (mk c.history_row.result) k ∙ (ap (λ (ws : List ℤ). mk ws c.in_ok-amount.amount) w ∙ sym s); within = subst N (sym k) n }

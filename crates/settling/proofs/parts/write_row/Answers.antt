@@ -4,7 +4,7 @@ use Rattle.settling.proofs.parts.write_row.Goals as goal
 
 pub returns : goal.returns
 returns c =
-    let ys = c.copy-from-slice.new.self in
+    let ys = c.copy_from_slice.new.self in
     let e : ys ≡ c.args.row.now = search rules in
     let n = c.requires.words in
     let l : length ys ≡ 19 = ap length e ∙ n in

@@ -8,9 +8,9 @@ pub loop-quarter-preserved : goal.loop-quarter-preserved
 loop-quarter-preserved c =
     let f : ℕ → ℤ = λ q. worth (at c.args.curve.now q) in
     let n = c.loop-quarter.invariant.1 in
-    let v = c.worth-at-sum.ensures.within in
+    let v = c.worth_at-sum.ensures.within in
     let a = c.requires.leads in (
-      count_more f (c.args.order.q0 - 8) c.loop-quarter.quarter c.loop-quarter.sum c.worth-at-sum.result _ (omega arith) (sym c.loop-quarter.sum-is ∙ c.loop-quarter.invariant.0) c.worth-at-sum.ensures.value (omega (arith, ints)),
+      count_more f (c.args.order.q0 - 8) c.loop-quarter.quarter c.loop-quarter.sum c.worth_at-sum.result _ (omega arith) (sym c.loop-quarter.sum-is ∙ c.loop-quarter.invariant.0) c.worth_at-sum.ensures.value (omega (arith, ints)),
       record { low = omega (arith, ints); high = omega (arith, ints) },
     )
 

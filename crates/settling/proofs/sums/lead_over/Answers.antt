@@ -9,9 +9,9 @@ pub loop-quarter-preserved : goal.loop-quarter-preserved
 loop-quarter-preserved c =
     let f : ℕ → ℤ = summed_in c.args.curves.now in
     let n = c.loop-quarter.invariant.1 in
-    let v = c.sum-over-sum.ensures.within in
+    let v = c.sum_over-sum.ensures.within in
     let a = c.requires.placed.leads in (
-      count_more f (c.args.order.q0 - 8) c.loop-quarter.quarter c.loop-quarter.sum c.sum-over-sum.result _ (omega arith) (sym c.loop-quarter.sum-is ∙ c.loop-quarter.invariant.0) c.sum-over-sum.ensures.value (omega (arith, ints)),
+      count_more f (c.args.order.q0 - 8) c.loop-quarter.quarter c.loop-quarter.sum c.sum_over-sum.result _ (omega arith) (sym c.loop-quarter.sum-is ∙ c.loop-quarter.invariant.0) c.sum_over-sum.ensures.value (omega (arith, ints)),
       record { low = omega (arith, ints); high = omega (arith, ints) },
     )
 

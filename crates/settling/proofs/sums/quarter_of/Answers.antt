@@ -15,35 +15,35 @@ near : (g : given.Over) (c : In-Ok g) → Near 10000000 c.in-Ok.baseline
 near g c =
     near_size 10000000 _ (answer_within (g.R.Rulebook.rules c.args.rules.now) (g.met.R.Rulebook.lawful c.args.rules.now) _ _ _ _ _ _ (sym c.baseline.ensures ∙ c.in-Ok.is))
 
-pub overflow-sub-worth-at : goal.overflow-sub-worth-at
-overflow-sub-worth-at g c =
-    let b = near g (goal.at.overflow-sub-worth-at g c).In-Ok in
-    let w = c.worth-at.ensures.within in
+pub overflow_sub-worth_at : goal.overflow_sub-worth_at
+overflow_sub-worth_at g c =
+    let b = near g (goal.at.overflow_sub-worth_at g c).In-Ok in
+    let w = c.worth_at.ensures.within in
     omega (arith, ints)
 
 pub toward-requires : goal.toward-requires
 toward-requires g c =
     let b = near g (goal.at.toward-requires g c).In-Ok in
-    let w = c.worth-at.ensures.within in
+    let w = c.worth_at.ensures.within in
     record { low = omega (arith, ints); high = omega (arith, ints) }
 
 pub returns-in-Ok : goal.returns-in-Ok
 returns-in-Ok g c =
     let bound = near g (goal.at.returns-in-Ok g c).In-Ok in
-    let m = c.worth-at.ensures.within in
+    let m = c.worth_at.ensures.within in
     let fl = c.ranges.l in
     let fc = c.ranges.c in
-    let fs : SFits w64 c.sum-over.result = search rules in
+    let fs : SFits w64 c.sum_over.result = search rules in
     let sums : ℕ → ℤ = summed_in c.args.curves.now in
     let R = g.R.Rulebook.rules c.args.rules.now in
     let dir = c.args.order.direction in
     let b = simp to_z-of_z at c.baseline.ensures in
     let r : answered R c.args.resource.choice (direction_number dir) (sums c.args.quarter) c.args.l c.args.c ≡ Ok c.in-Ok.baseline =
-    ap (λ (k : ℕ). answered R c.args.resource.choice k (sums c.args.quarter) c.args.l c.args.c) (sym c.direction-number.ensures)
-    ∙ (ap (λ (z : ℤ). answered R c.args.resource.choice c.direction-number.result z c.args.l c.args.c) (sym c.sum-over.ensures.value)
+    ap (λ (k : ℕ). answered R c.args.resource.choice k (sums c.args.quarter) c.args.l c.args.c) (sym c.direction_number.ensures)
+    ∙ (ap (λ (z : ℤ). answered R c.args.resource.choice c.direction_number.result z c.args.l c.args.c) (sym c.sum_over.ensures.value)
     ∙ (sym b ∙ c.in-Ok.is)) in
-    let w : c.toward.result ≡ toward dir (c.worth-at.result -ℤ c.in-Ok.baseline) = c.toward.ensures.value ∙ ap (toward dir) (omega (arith, ints)) in
-    let w2 = w ∙ ap (λ (z : ℤ). toward dir (z -ℤ c.in-Ok.baseline)) c.worth-at.ensures.value in
+    let w : c.toward.result ≡ toward dir (c.worth_at.result -ℤ c.in-Ok.baseline) = c.toward.ensures.value ∙ ap (toward dir) (omega (arith, ints)) in
+    let w2 = w ∙ ap (λ (z : ℤ). toward dir (z -ℤ c.in-Ok.baseline)) c.worth_at.ensures.value in
     let x : quarter_by R sums c.args.order c.args.number c.args.resource c.args.curve.now c.args.l c.args.c c.args.quarter ≡ Ok c.toward.result =
     ap (λ (v : Result ℤ RuleFault). ruled_at c.args.number c.args.quarter v >>= (λ b. Ok (toward dir (worth (at c.args.curve.now c.args.quarter) -ℤ b)))) r ∙ ap (λ (z : ℤ). Ok z) (sym w2) in
     let n = c.toward.ensures.within in

@@ -10,8 +10,8 @@ pub loop-curve-preserved : goal.loop-curve-preserved
 loop-curve-preserved c =
     let f : Curve → ℤ = λ x. worth (at x c.args.quarter) in
     let n = c.loop-curve.invariant.1 in
-    let v = c.worth-at-sum.ensures.within in (
-      sum_more f c.args.curves.now c.loop-curve.curve-index c.curve-item.result c.loop-curve.sum c.worth-at-sum.result _ (omega arith) (sym c.loop-curve.sum-is ∙ c.loop-curve.invariant.0) (c.worth-at-sum.ensures.value ∙ ap f c.curve-item.is) (omega (arith, ints)),
+    let v = c.worth_at-sum.ensures.within in (
+      sum_more f c.args.curves.now c.loop-curve.curve-index c.curve-item.result c.loop-curve.sum c.worth_at-sum.result _ (omega arith) (sym c.loop-curve.sum-is ∙ c.loop-curve.invariant.0) (c.worth_at-sum.ensures.value ∙ ap f c.curve-item.is) (omega (arith, ints)),
       record { low = omega (arith, ints); high = omega (arith, ints) },
     )
 

@@ -8,7 +8,7 @@ pub returns : goal.returns
 returns c =
     let N : ℤ → Type 0 = λ z. Near 1000000 z in
     let curve = c.args.curve.now in
-    let v : c.worth-of.result ≡ worth (at curve c.args.quarter) = c.worth-of.ensures ∙ (ap worth_of c.reading.ensures ∙ worth_held (Some curve) c.args.quarter c.requires) in
-    let n : Near 1000000 c.worth-of.result = subst N (sym v) (near_held (Some curve) c.args.quarter c.requires) in
-    let w = widened c.worth-of.result n in
+    let v : c.worth_of.result ≡ worth (at curve c.args.quarter) = c.worth_of.ensures ∙ (ap worth_of c.reading.ensures ∙ worth_held (Some curve) c.args.quarter c.requires) in
+    let n : Near 1000000 c.worth_of.result = subst N (sym v) (near_held (Some curve) c.args.quarter c.requires) in
+    let w = widened c.worth_of.result n in
     record { value = w ∙ v; within = subst N (sym w) n }

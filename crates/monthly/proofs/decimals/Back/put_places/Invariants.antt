@@ -4,4 +4,4 @@ use Rattle.monthly.specs.Cells.{shown}
 use Rattle.monthly.proofs.decimals.Back.put_places.Given as goal
 
 abbrev pub invariant-loop-k : goal.invariant-loop-k
-invariant-loop-k l = (shown l.self ≡ last_digits l.-k l.n ++ shown l.initial.self) × (l.self.from + l.-k ≡ l.initial.self.from) × (l.rest ≡ l.n / 10 ^ l.-k)
+invariant-loop-k l = (shown l.self ≡ last_digits l._k l.n ++ shown l.initial.self) × (l.self.from + l._k ≡ l.initial.self.from) × (l.rest ≡ l.n / 10 ^ l._k)
