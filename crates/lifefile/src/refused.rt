@@ -2,10 +2,10 @@
 use calendar::date_of;
 use metering::fault::Fault;
 use refusals::{Layer, Refusal, matter_of};
-use std::fmt;
+use std::alloc::AllocError;
 
 // A day as its date; one beyond the calendar as its number.
-fn write_day(out: &mut String, day: u32) -> fmt::Result {
+fn write_day(out: &mut String, day: u32) -> Result<(), AllocError> {
     match date_of(day) {
         Some(date) => write!(out, "{date}"),
         None => write!(out, "day {day}"),
@@ -35,7 +35,7 @@ fn plain_words(number: u8) -> &'static str {
     }
 }
 
-fn write_unheld(out: &mut String, number: u8, resource: u32, day: u32) -> fmt::Result {
+fn write_unheld(out: &mut String, number: u8, resource: u32, day: u32) -> Result<(), AllocError> {
     match number {
         11 => write!(
             out,
@@ -51,7 +51,7 @@ fn write_unheld(out: &mut String, number: u8, resource: u32, day: u32) -> fmt::R
     write_day(out, day)
 }
 
-fn write_words(out: &mut String, refusal: Refusal) -> fmt::Result {
+fn write_words(out: &mut String, refusal: Refusal) -> Result<(), AllocError> {
     let first = refusal.first;
     let second = refusal.second;
     match refusal.number {
@@ -69,11 +69,11 @@ fn write_words(out: &mut String, refusal: Refusal) -> fmt::Result {
             "the rule of resource {first} gives no baseline for quarter {second}"
         ),
         26 => write!(out, "order {first} of this month is not settled"),
-        number => out.write(plain_words(number)),
+        number => out.push_str(plain_words(number)),
     }
 }
 
-fn write_head(out: &mut String, line: usize, refusal: Refusal) -> fmt::Result {
+fn write_head(out: &mut String, line: usize, refusal: Refusal) -> Result<(), AllocError> {
     let number = refusal.number;
     let layer = refusal.layer;
     let first = refusal.first;
@@ -81,19 +81,19 @@ fn write_head(out: &mut String, line: usize, refusal: Refusal) -> fmt::Result {
     write!(out, "{line} refused {number} {layer} {first} {second} ")
 }
 
-fn write_matter(out: &mut String, number: u8) -> fmt::Result {
+fn write_matter(out: &mut String, number: u8) -> Result<(), AllocError> {
     let matter = matter_of(number);
     writeln!(out, ": {matter}")
 }
 
-pub fn write_refused(out: &mut String, line: usize, refusal: Refusal) -> fmt::Result {
+pub fn write_refused(out: &mut String, line: usize, refusal: Refusal) -> Result<(), AllocError> {
     write_head(out, line, refusal)?;
     write_words(out, refusal)?;
     write_matter(out, refusal.number)
 }
 
 // A curve that could not be formed or imported.
-pub fn write_unformed(out: &mut String, line: usize, fault: Fault) -> fmt::Result {
+pub fn write_unformed(out: &mut String, line: usize, fault: Fault) -> Result<(), AllocError> {
     let refusal = fault.refusal();
     write_head(out, line, refusal)?;
     match fault {

@@ -8,7 +8,7 @@ use ledger::fault::BookFault;
 use ledger::life::Answer;
 use ledger::records::{Month, Outcome};
 use metering::columns::Columns;
-use std::fmt;
+use std::alloc::AllocError;
 use stores::fault::StoreFault;
 use stores::store::Store;
 
@@ -19,7 +19,7 @@ pub fn write_made<S: Store>(
     word: &str,
     fits: Result<(), StoreFault>,
     store: &S,
-) -> fmt::Result {
+) -> Result<(), AllocError> {
     if let Err(fault) = fits {
         return write_refused(out, line, fault.refusal());
     }
@@ -32,14 +32,18 @@ pub fn write_made<S: Store>(
     )
 }
 
-pub fn write_filled(out: &mut String, line: usize, filled: Result<(), BookFault>) -> fmt::Result {
+pub fn write_filled(
+    out: &mut String,
+    line: usize,
+    filled: Result<(), BookFault>,
+) -> Result<(), AllocError> {
     match filled {
         Ok(()) => writeln!(out, "{line} ok terms"),
         Err(fault) => write_refused(out, line, fault.refusal()),
     }
 }
 
-fn write_entered(out: &mut String, line: usize, note: Note) -> fmt::Result {
+fn write_entered(out: &mut String, line: usize, note: Note) -> Result<(), AllocError> {
     let Note::Columns(columns) = note else {
         return writeln!(out, "{line} ok curve");
     };
@@ -55,7 +59,12 @@ fn write_entered(out: &mut String, line: usize, note: Note) -> fmt::Result {
     )
 }
 
-fn write_outcome(out: &mut String, line: usize, note: Note, outcome: Outcome) -> fmt::Result {
+fn write_outcome(
+    out: &mut String,
+    line: usize,
+    note: Note,
+    outcome: Outcome,
+) -> Result<(), AllocError> {
     write!(out, "{line} ok settle")?;
     if let Note::Order(order) = note {
         write!(out, " {order}")?;
@@ -73,7 +82,7 @@ fn write_outcome(out: &mut String, line: usize, note: Note, outcome: Outcome) ->
 }
 
 // The history days as dates, latest first.
-fn write_days(out: &mut String, days: &[i32], needed: i32) -> fmt::Result {
+fn write_days(out: &mut String, days: &[i32], needed: i32) -> Result<(), AllocError> {
     let count = usize::try_from(needed).unwrap_or(0);
     for day in days.iter().take(count) {
         let number = u32::try_from(*day).unwrap_or(u32::MAX);
@@ -86,7 +95,12 @@ fn write_days(out: &mut String, days: &[i32], needed: i32) -> fmt::Result {
 }
 
 // One resource's 19 words of a sheet: whether it was measured, how many days, up to fifteen days, C and L.
-fn write_evidence(out: &mut String, line: usize, resource: usize, words: &[i32]) -> fmt::Result
+fn write_evidence(
+    out: &mut String,
+    line: usize,
+    resource: usize,
+    words: &[i32],
+) -> Result<(), AllocError>
     requires { length words.now ≡ 19 }
 {
     write!(out, "{line} evidence {resource}")?;
@@ -101,7 +115,12 @@ fn write_evidence(out: &mut String, line: usize, resource: usize, words: &[i32])
     writeln!(out, " C {c} L {l}")
 }
 
-fn write_sheet(out: &mut String, line: usize, resources: usize, sheet: &[i32; 608]) -> fmt::Result {
+fn write_sheet(
+    out: &mut String,
+    line: usize,
+    resources: usize,
+    sheet: &[i32; 608],
+) -> Result<(), AllocError> {
     for resource in 0..resources.min(32) {
         let from = 19 * resource;
         write_evidence(out, line, resource, &sheet[from..from + 19])?;
@@ -109,7 +128,7 @@ fn write_sheet(out: &mut String, line: usize, resources: usize, sheet: &[i32; 60
     Ok(())
 }
 
-fn write_month(out: &mut String, line: usize, figures: &Month) -> fmt::Result {
+fn write_month(out: &mut String, line: usize, figures: &Month) -> Result<(), AllocError> {
     let Month {
         av,
         di,
@@ -136,7 +155,7 @@ pub fn write_answer(
     note: Note,
     resources: usize,
     answer: &Answer,
-) -> fmt::Result {
+) -> Result<(), AllocError> {
     match answer {
         Answer::Refused(fault) => write_refused(out, line, fault.refusal()),
         Answer::Registered(resource) => writeln!(out, "{line} ok register {resource}"),

@@ -77,4 +77,4 @@ module _ (b : Book) (k words : ℕ) where
   pub settle_done : (o : Order) (x : Outcome) → unsettled_in b.orders k ≡ Ok o → can_settle b.resources o ≡ true → Ok x ≡ settled_at b.terms o (parts_in b o words) → Done o x
   settle_done o x p t q =
       let g = given_parts b.terms o x (parts_in b o words) q in
-      record { list = g.list; are = g.are; is = from_parts o p t ∙ ap (λ (v : Granted (List Part)). v >>= (λ ps. Ok (settlement_of b.terms o ps))) g.are; outcome_is = g.outcome-is }
+      record { list = g.list; are = g.are; is = from_parts o p t ∙ ap (λ (v : Granted (List Part)). v >>= (λ ps. Ok (settlement_of b.terms o ps))) g.are; outcome_is = g.outcome_is }

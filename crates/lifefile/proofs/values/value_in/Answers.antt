@@ -14,4 +14,4 @@ drawn_value t e =
 pub returns-then-bytes-eq45 : goal.returns-then-bytes-eq45
 returns-then-bytes-eq45 c =
     let t = c.args.bytes.now in
-    c.drawn-by.ensures ∙ ap (option_map drawing) (c.number-in.ensures ∙ ap number_in (take_rest t 1)) ∙ drawn_value t c.if-bytes-eq45.true
+    c.drawn_by.ensures ∙ ap (option_map drawing) (c.number_in.ensures ∙ ap number_in (take_rest t 1)) ∙ drawn_value t c.if-bytes-eq45.true

@@ -3,8 +3,8 @@ use Rattle.lifefile.specs.Words.{with_digit}
 use Rattle.lifefile.proofs.Numbers.{digit_small, number_more, number_none, number_all}
 use Rattle.lifefile.proofs.words.number_in.Goals as goal
 
-pub returns-in-default : goal.returns-in-default
-returns-in-default c =
+pub returns-in_default : goal.returns-in_default
+returns-in_default c =
     let w : None ≡ with_digit c.loop-byte.value (get_or c.args.bytes.now c.loop-byte.byte-index 0) = cc in
     number_none c.loop-byte.value c.args.bytes.now c.loop-byte.byte-index c.loop-byte-test.true w c.loop-byte.invariant.1
 
@@ -14,4 +14,4 @@ loop-byte-preserved c =
     (digit_small c.loop-byte.value (get_or c.args.bytes.now c.loop-byte.byte-index 0) c.in-Some.longer w, number_more c.loop-byte.value c.in-Some.longer c.args.bytes.now c.loop-byte.byte-index c.loop-byte-test.true w c.loop-byte.invariant.1)
 
 pub returns : goal.returns
-returns c = number_all c.loop-byte.value c.args.bytes.now c.loop-byte.byte-index c.loop-byte.invariant.0 (sym c.is-empty.ensures ∙ c.if-is-empty.false) (omega arith) c.loop-byte.invariant.1
+returns c = number_all c.loop-byte.value c.args.bytes.now c.loop-byte.byte-index c.loop-byte.invariant.0 (sym c.is_empty.ensures ∙ c.if-is_empty.false) (omega arith) c.loop-byte.invariant.1

@@ -37,11 +37,11 @@ returns g c =
     let us = c.args.answers.now in
     let t = le-leb (length xs) (length us) (omega arith) in
     let e = c.new-book.ensures in
-    let all = c.run-calls.ensures.answers ∙ ap (λ (k : Book). run k xs ++ drop (length xs) us) e in
+    let all = c.run_calls.ensures.answers ∙ ap (λ (k : Book). run k xs ++ drop (length xs) us) e in
     record {
       refused = sym (cond-true (leb (length xs) (length us)) None (Some ShortMemory) t);
       answers = all ∙ sym (cond-true (leb (length xs) (length us)) (run b xs ++ drop (length xs) us) us t);
-      book = c.run-calls.ensures.book ∙ (ap (λ (k : Book). final k xs) e ∙ sym (cond-true (leb (length xs) (length us)) (final b xs) b t));
+      book = c.run_calls.ensures.book ∙ (ap (λ (k : Book). final k xs) e ∙ sym (cond-true (leb (length xs) (length us)) (final b xs) b t));
       second = λ h. second c.args.terms _ _ xs _ (in_front b xs us _ all);
       lives = two_lives;
       bounds = bounds;

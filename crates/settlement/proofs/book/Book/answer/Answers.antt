@@ -16,6 +16,6 @@ returns-in-Register g c =
     let new = registered b pod h.choice h.power in
     let n = length b.resources in
     record {
-      answer = c.registered.ensures ∙ (ap registered_as c.register.ensures.answer ∙ (ap (λ (ps : List ℕ). registered_as (register_answer b ps h.choice h.power)) c.as-slice.ensures.value ∙ (register_answer_lem b n new m ∙ ap (λ (x : Call). (step b x).answer) (sym h.is))));
-      after = c.register.ensures.after ∙ (ap (λ (ps : List ℕ). after_register b ps h.choice h.power) c.as-slice.ensures.value ∙ (register_book b n new m ∙ ap (λ (x : Call). (step b x).book) (sym h.is)));
+      answer = c.registered.ensures ∙ (ap registered_as c.register.ensures.answer ∙ (ap (λ (ps : List ℕ). registered_as (register_answer b ps h.choice h.power)) c.as_slice.ensures.value ∙ (register_answer_lem b n new m ∙ ap (λ (x : Call). (step b x).answer) (sym h.is))));
+      after = c.register.ensures.after ∙ (ap (λ (ps : List ℕ). after_register b ps h.choice h.power) c.as_slice.ensures.value ∙ (register_book b n new m ∙ ap (λ (x : Call). (step b x).book) (sym h.is)));
     }

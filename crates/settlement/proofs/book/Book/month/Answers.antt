@@ -13,12 +13,12 @@ use Rattle.settlement.proofs.book.Book.month.Goals as goal
 pub returns : goal.returns
 returns g c =
     let t = c.args.self.now.terms in
-    let os = c.as-slice.result.now in
-    let ds = c.as-slice-2.result.now in
+    let os = c.as_slice.result.now in
+    let ds = c.as_slice-2.result.now in
     let y = c.args.year in
     let m = c.args.month in
-    let fit = and_from (leb (length os) 128) _ (le-leb (length os) 128 c.as-slice.ensures.room) (all_modest os (ap are_standing c.as-slice.ensures.held ∙ c.args.self.now.standing)) in
-    c.month-figures.ensures
+    let fit = and_from (leb (length os) 128) _ (le-leb (length os) 128 c.as_slice.ensures.room) (all_modest os (ap are_standing c.as_slice.ensures.held ∙ c.args.self.now.standing)) in
+    c.month_figures.ensures
     ∙ (ap (λ (b : Bool). unless (not b) Number >>= (λ _. month_from t os ds y m)) fit
-    ∙ (ap (λ (bs : List Booked). month_from t bs ds y m) c.as-slice.ensures.held
-    ∙ ap (λ (xs : List Declaration). month_from t (orders_held c.args.self.now.orders) xs y m) c.as-slice-2.ensures.held))
+    ∙ (ap (λ (bs : List Booked). month_from t bs ds y m) c.as_slice.ensures.held
+    ∙ ap (λ (xs : List Declaration). month_from t (orders_held c.args.self.now.orders) xs y m) c.as_slice-2.ensures.held))

@@ -14,36 +14,40 @@ use Rattle.settlement.proofs.Settlings.{can_settle_lem, same_parts, settle_break
 use Rattle.settlement.proofs.Standing.{standing_recorded}
 use Rattle.settlement.proofs.book.Book.settle.Goals as goal
 
-pub returns-in-err-outcome : goal.returns-in-err-outcome
-returns-in-err-outcome g c =
+pub returns-in_err-outcome : goal.returns-in_err-outcome
+returns-in_err-outcome g c =
     let b = meaning g.S.Store.model g.R.Rulebook.rules c.args.self.now in
     let ws = c.args.sheet.now in
-    let o = c.in-ok-order.order in
-    let xs = c.as-slice.ensures in
-    let q = err_from_is_err_and c.from-residual-in-err-outcome.result c.from-residual-in-err-outcome.ensures.1 in
-    let sp = same_parts b o (length ws) _ _ c.as-slice-2.ensures.held xs.held in
-    let s = settle_break b c.args.number (length ws) o _ (sym c.to-settle.ensures.order ∙ c.in-ok-order.was) (can_settle_lem c.as-slice.result.now b.resources o xs.held xs.room xs.powered c.in-ok-order.ensures.placed) (sym c.in-err-outcome.was ∙ (c.settle-order.ensures.answer ∙ ap (settled_at b.terms o) sp)) in
+    let o = c.in_ok-order.order in
+    let xs = c.as_slice.ensures in
+    let q = err_from_is_err_and c.from_residual-in_err-outcome.result c.from_residual-in_err-outcome.ensures.1 in
+    let sp = same_parts b o (length ws) _ _ c.as_slice-2.ensures.held xs.held in
+    let s = settle_break b c.args.number (length ws) o _ (sym c.to_settle.ensures.order ∙ c.in_ok-order.was) (can_settle_lem c.as_slice.result.now b.resources o xs.held xs.room xs.powered c.in_ok-order.ensures.placed) (sym c.in_err-outcome.was ∙ (c.settle_order.ensures.answer ∙ ap (settled_at b.terms o) sp)) in
     record {
       answer = q.1 ∙ (ap (λ (e : BookFault). Err e) q.2 ∙ sym (ap outcome_in s.0));
       after = sym (ap (after_settle b c.args.number) s.0);
-      rows = c.settle-order.ensures.rows ∙ (ap (λ (m : Granted (List Part)). sheet_of m ws) (sp ∙ s.1) ∙ sym (ap (λ (m : Granted Settlement). sheet_after m ws) s.0));
+      rows = c.settle_order.ensures.rows ∙ (ap (λ (m : Granted (List Part)). sheet_of m ws) (sp ∙ s.1) ∙ sym (ap (λ (m : Granted Settlement). sheet_after m ws) s.0));
     }
 
-pub invariant-of-self-2 : goal.invariant-of-self-2
-invariant-of-self-2 g c =
-    (c.record.ensures.room.places, (c.record.ensures.room.room, (subst (λ (l : List Booked). are_standing l ≡ true) (sym c.record.ensures.held) (standing_recorded (orders_held c.args.self.now.orders) c.args.number _ c.args.self.now.standing c.in-ok-outcome.ensures.size), tt)))
+pub invariant_of-self-2 : goal.invariant_of-self-2
+invariant_of-self-2 g c =
+    record {
+      places = c.record.ensures.room.places;
+      room = c.record.ensures.room.room;
+      standing = subst (λ (l : List Booked). are_standing l ≡ true) (sym c.record.ensures.held) (standing_recorded (orders_held c.args.self.now.orders) c.args.number _ c.args.self.now.standing c.in_ok-outcome.ensures.size);
+    }
 
 pub returns : goal.returns
 returns g c =
     let b = meaning g.S.Store.model g.R.Rulebook.rules c.args.self.now in
     let ws = c.args.sheet.now in
-    let o = c.in-ok-order.order in
-    let x = c.in-ok-outcome.outcome in
-    let xs = c.as-slice.ensures in
-    let sp = same_parts b o (length ws) _ _ c.as-slice-2.ensures.held xs.held in
-    let d = settle_done b c.args.number (length ws) o x (sym c.to-settle.ensures.order ∙ c.in-ok-order.was) (can_settle_lem c.as-slice.result.now b.resources o xs.held xs.room xs.powered c.in-ok-order.ensures.placed) (sym c.in-ok-outcome.was ∙ (c.settle-order.ensures.answer ∙ ap (settled_at b.terms o) sp)) in
+    let o = c.in_ok-order.order in
+    let x = c.in_ok-outcome.outcome in
+    let xs = c.as_slice.ensures in
+    let sp = same_parts b o (length ws) _ _ c.as_slice-2.ensures.held xs.held in
+    let d = settle_done b c.args.number (length ws) o x (sym c.to_settle.ensures.order ∙ c.in_ok-order.was) (can_settle_lem c.as_slice.result.now b.resources o xs.held xs.room xs.powered c.in_ok-order.ensures.placed) (sym c.in_ok-outcome.was ∙ (c.settle_order.ensures.answer ∙ ap (settled_at b.terms o) sp)) in
     record {
-      answer = ap (λ (y : Outcome). Ok y) d.outcome-is ∙ sym (ap outcome_in d.is);
-      after = ap (with_orders b) c.record.ensures.held ∙ (ap (settled b c.args.number) d.outcome-is ∙ sym (ap (after_settle b c.args.number) d.is));
-      rows = c.settle-order.ensures.rows ∙ (ap (λ (m : Granted (List Part)). sheet_of m ws) (sp ∙ d.are) ∙ sym (ap (λ (m : Granted Settlement). sheet_after m ws) d.is));
+      answer = ap (λ (y : Outcome). Ok y) d.outcome_is ∙ sym (ap outcome_in d.is);
+      after = ap (with_orders b) c.record.ensures.held ∙ (ap (settled b c.args.number) d.outcome_is ∙ sym (ap (after_settle b c.args.number) d.is));
+      rows = c.settle_order.ensures.rows ∙ (ap (λ (m : Granted (List Part)). sheet_of m ws) (sp ∙ d.are) ∙ sym (ap (λ (m : Granted Settlement). sheet_after m ws) d.is));
     }

@@ -6,4 +6,4 @@ pub returns-then-n-eq0 : goal.returns-then-n-eq0
 returns-then-n-eq0 c = in_time_none c.args.orders.now c.args.order (omega arith)
 
 pub returns : goal.returns
-returns c = c.rests-before.ensures ∙ in_time_last c.args.orders.now c.args.order _ (length c.args.orders.now - 1) (omega arith)
+returns c = c.rests_before.ensures ∙ in_time_last c.args.orders.now c.args.order _ (length c.args.orders.now - 1) (omega arith)
