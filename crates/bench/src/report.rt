@@ -1,5 +1,6 @@
 // Times and figures, printed.
 use crate::load::ORDERS;
+use anyhow::anyhow;
 use ledger::fault::BookFault;
 use std::alloc::Global;
 use std::time::Duration;
@@ -30,8 +31,7 @@ pub fn allowed<T>(heap: Global, answer: Result<T, BookFault>) -> anyhow::Result<
         Ok(value) => Ok(value),
         Err(fault) => {
             let number = fault.refusal().number;
-            let words = format!(in heap; "refused with {number}")?;
-            Err(words.into())
+            Err(anyhow!("refused with {number}"))
         }
     }
 }

@@ -1,7 +1,7 @@
 // meter: one meter export, where its columns stood and what its day amounts to.
 #![tactic(auto)]
 
-use anyhow::anyhow;
+use std::process::ExitCode;
 
 mod report;
 mod source;
@@ -28,13 +28,13 @@ fn run(rt: &HostRuntime) -> anyhow::Result<bool> {
     }
 }
 
-fn main(rt: HostRuntime) -> anyhow::Result<()> {
+fn main(rt: HostRuntime) -> anyhow::Result<ExitCode> {
     match run(&rt) {
-        Ok(true) => Ok(()),
-        Ok(false) => Err(anyhow!("refused")),
+        Ok(true) => Ok(ExitCode::SUCCESS),
+        Ok(false) => Ok(ExitCode::FAILURE),
         Err(e) => {
             eprintln!(rt; "meter: {e}")?;
-            Err(e)
+            Ok(ExitCode::FAILURE)
         }
     }
 }

@@ -37,9 +37,6 @@ pub fn from_input(rt: &HostRuntime) -> anyhow::Result<Vec<u8>> {
 pub fn from_file(rt: &HostRuntime, path: &str) -> anyhow::Result<Vec<u8>> {
     match fs::read(rt, path) {
         Ok(bytes) => Ok(bytes),
-        Err(e) => {
-            let words = format!(in rt.alloc(); "{path} cannot be read: {e}")?;
-            Err(anyhow!("{words}"))
-        }
+        Err(e) => Err(anyhow!("{path} cannot be read: {e}")),
     }
 }

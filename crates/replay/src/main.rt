@@ -4,8 +4,10 @@
 mod report;
 mod source;
 
+use anyhow::anyhow;
 use lifefile::script::{At, read_script};
 use source::{Asked, Beside};
+use std::process::ExitCode;
 
 const HELP: &str = "usage: replay [FILE ..]
 Reads a life file, the record of all calls made on one settlement book, from FILE or from standard input
@@ -45,10 +47,7 @@ fn replay(rt: &HostRuntime, life: &str, text: &str) -> anyhow::Result<()> {
     print!(rt; "{out}")?;
     match flaw {
         None => Ok(()),
-        Some(At { line, what }) => {
-            let words = format!(in rt.alloc(); "line {line}: {what}")?;
-            Err(words.into())
-        }
+        Some(At { line, what }) => { Err(anyhow!("line {line}: {what}")) }
     }
 }
 
@@ -75,12 +74,12 @@ fn run(rt: &HostRuntime) -> anyhow::Result<()> {
     }
 }
 
-fn main(rt: HostRuntime) -> anyhow::Result<()> {
+fn main(rt: HostRuntime) -> anyhow::Result<ExitCode> {
     match run(&rt) {
-        Ok(()) => Ok(()),
+        Ok(()) => Ok(ExitCode::SUCCESS),
         Err(e) => {
             eprintln!(rt; "replay: {e}")?;
-            Err(e)
+            Ok(ExitCode::FAILURE)
         }
     }
 }

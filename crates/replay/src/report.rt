@@ -12,8 +12,7 @@ use lifefile::text::{write_answer, write_filled, write_made};
 use monthly::line::write_line;
 use rulebooks::SuppliedRulebook;
 use settlement::live::live;
-use std::alloc::Global;
-use std::fmt;
+use std::alloc::{AllocError, Global};
 use std::str::from_utf8;
 use stores::keeper::{Keeper, keeper_fits};
 use stores::store::Store;
@@ -21,7 +20,12 @@ use stores::store::Store;
 // Longer than any line of fourteen figures.
 const LONGEST_LINE: usize = 512;
 
-fn write_month_line(out: &mut String, line: usize, terms: &Terms, figures: &Month) -> fmt::Result {
+fn write_month_line(
+    out: &mut String,
+    line: usize,
+    terms: &Terms,
+    figures: &Month,
+) -> Result<(), AllocError> {
     let mut bytes = [0u8; LONGEST_LINE];
     let length = match write_line(terms, figures, &mut bytes) {
         Ok(length) => length as usize,
@@ -29,7 +33,7 @@ fn write_month_line(out: &mut String, line: usize, terms: &Terms, figures: &Mont
     };
     write!(out, "{line} ok line ")?;
     for byte in bytes.iter().take(length) {
-        out.write(*byte as char)?;
+        out.push(*byte as char)?;
     }
     Ok(())
 }
@@ -48,7 +52,7 @@ fn write_asked(
     resources: usize,
     terms: &Terms,
     answer: &Answer,
-) -> fmt::Result {
+) -> Result<(), AllocError> {
     match (note, answer) {
         (Note::Line, Answer::Month(figures)) => write_month_line(out, line, terms, figures),
         _ => write_answer(out, line, note, resources, answer),
@@ -56,7 +60,7 @@ fn write_asked(
 }
 
 // Each step with the answer of its call. All resources are registered before the first order.
-fn write_steps(out: &mut String, script: &Script, answers: &[Answer]) -> fmt::Result {
+fn write_steps(out: &mut String, script: &Script, answers: &[Answer]) -> Result<(), AllocError> {
     let mut resources = 0usize;
     for At { line, what } in script.steps.iter() {
         match what {

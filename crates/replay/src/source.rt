@@ -1,4 +1,5 @@
 // What the program reads: a life file, and the meter exports beside it.
+use anyhow::anyhow;
 use lifefile::flaw::Flaw;
 use lifefile::script::Exports;
 use std::alloc::{AllocError, Global};
@@ -57,10 +58,7 @@ pub fn from_input(rt: &HostRuntime) -> anyhow::Result<String> {
 pub fn from_file(rt: &HostRuntime, path: &str) -> anyhow::Result<String> {
     match fs::read(rt, path) {
         Ok(bytes) => Ok(text_of(rt.alloc(), bytes.as_slice())?),
-        Err(e) => {
-            let words = format!(in rt.alloc(); "{path} cannot be read: {e}")?;
-            Err(words.into())
-        }
+        Err(e) => { Err(anyhow!("{path} cannot be read: {e}")) }
     }
 }
 
