@@ -2,7 +2,6 @@
 use crate::load::ORDERS;
 use anyhow::anyhow;
 use ledger::fault::BookFault;
-use std::alloc::Global;
 use std::time::Duration;
 
 pub fn tell_time(rt: &HostRuntime, name: &str, time: Duration) -> anyhow::Result<()> {
@@ -26,7 +25,7 @@ pub fn tell_asked(rt: &HostRuntime, time: Duration, sum: u64) -> anyhow::Result<
 }
 
 // The answer, or its refusal in words.
-pub fn allowed<T>(heap: Global, answer: Result<T, BookFault>) -> anyhow::Result<T> {
+pub fn allowed<T>(answer: Result<T, BookFault>) -> anyhow::Result<T> {
     match answer {
         Ok(value) => Ok(value),
         Err(fault) => {

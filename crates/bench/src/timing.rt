@@ -9,19 +9,19 @@ use stores::store::Store;
 
 // The store, after all curves are entered by a book.
 fn enter<S: Store + Drop>(rt: &HostRuntime, store: S) -> anyhow::Result<S> {
-    let mut book = allowed(rt.alloc(), ready(store))?;
+    let mut book = allowed(ready(store))?;
     let start = Instant::now(rt)?;
-    allowed(rt.alloc(), enter_all(&mut book))?;
+    allowed(enter_all(&mut book))?;
     tell_time(rt, "entering 12,800 curves", start.elapsed(rt)?)?;
     Ok(book.into_store())
 }
 
 // All orders in a new book; the time, and the store back.
 fn settle<S: Store + Drop>(rt: &HostRuntime, store: S) -> anyhow::Result<(S, Duration)> {
-    let mut book = allowed(rt.alloc(), ready(store))?;
+    let mut book = allowed(ready(store))?;
     let mut sheet = vec![in rt.alloc(); 0i32; 608]?;
     let start = Instant::now(rt)?;
-    let energy = allowed(rt.alloc(), settle_all(&mut book, sheet.as_mut_slice()))?;
+    let energy = allowed(settle_all(&mut book, sheet.as_mut_slice()))?;
     let time = start.elapsed(rt)?;
     tell_settled(rt, time, energy)?;
     Ok((book.into_store(), time))

@@ -1,5 +1,5 @@
 -- What one resource brings, in two stores that differ only where an order stands.
-use Rattle.std.proofs.Common.{◌≡◌, ℕ, zero, suc, ◌+◌, ◌-◌, ◌*◌, ◌<◌, ◌≤◌, Bool, true, false, cond, not, ◌&&◌, List, [], ◌∷◌, ◌++◌, map, length, take, ℤ, pos, ◌+ℤ◌, ◌-ℤ◌, Some, None, Ok, Err, Option, Result, sym, refl, ap, ◌∙◌, subst, ap₂, true≢false, arith}
+use Rattle.std.proofs.Common.{◌≡◌, ℕ, ◌+◌, ◌-◌, ◌*◌, ◌<◌, ◌≤◌, Bool, true, false, cond, not, ◌&&◌, List, [], ◌∷◌, ◌++◌, map, ℤ, pos, ◌-ℤ◌, Some, None, Ok, Err, Option, refl, ap, subst, ap₂, arith}
 use mathlib.Core.Path.{fun_ext}
 use mathlib.Core.Bool.{false≢true}
 use Rattle.std.specs.List.{AllByRecursion as All}
@@ -11,11 +11,11 @@ use Rattle.ledger.specs.declared.terms.Terms.{Terms}
 use Rattle.ledger.specs.declared.records.Direction.{Direction}
 use Rattle.ledger.specs.declared.records.Order.{Order}
 use Rattle.ledger.specs.declared.records.Resource.{Resource}
-use Rattle.ledger.specs.Words.{Granted, ◌>>=◌, is_measured, worth, at, measured_in, toward, Further, ordered, lead, total, total_of, distance, apart}
+use Rattle.ledger.specs.Words.{Granted, ◌>>=◌, is_measured, worth, at, measured_in, toward, Further, ordered, lead, total, distance, apart}
 use Rattle.ledger.specs.Days.{in_kinds}
-use Rattle.ledger.specs.Settling.{Held, curve_for, reading_on, is_whole, qualifies, latest, direction_number, ruled_at, Part, sum_over, lead_over, lead_on, baseline, quarter, by_history, by_power, needs, part, evidence_row}
+use Rattle.ledger.specs.Settling.{Held, curve_for, reading_on, is_whole, qualifies, latest, direction_number, ruled_at, Part, sum_over, lead_over, lead_on, quarter, by_history, by_power, needs, part, evidence_row}
 use Rattle.ledger.specs.Lives.{Moved, same, further, MovedCurve, Both, neither, both}
-use Rattle.ledger.proofs.Rel.{bind_both, Sure, bind_self, cond_both, total_cong, all_counting, Fit, latest_sure}
+use Rattle.ledger.proofs.Rel.{bind_both, bind_self, cond_both, total_cong, all_counting, Fit, latest_sure}
 use Rattle.ledger.proofs.Numbers.{Near, near_same, near_toward, total_of_near}
 
 -- held in both, or in neither

@@ -1,16 +1,16 @@
 -- What the evidence of an order tells.
-use Rattle.std.proofs.Common.{◌≡◌, ℕ, ◌<◌, ◌≤◌, Bool, true, false, cond, ltb, ◌⊎◌, List, [], ◌∷◌, ◌++◌, length, take, ℤ, ◌+ℤ◌, ◌-ℤ◌, Some, None, Ok, Err, Option, Result, sym, refl, ap, ◌∙◌, subst, inl, inr, arith, length-take}
+use Rattle.std.proofs.Common.{◌≡◌, ℕ, Bool, true, false, cond, ltb, ◌⊎◌, List, [], ◌∷◌, ◌++◌, length, take, ℤ, ◌+ℤ◌, ◌-ℤ◌, Some, None, Ok, Err, Option, Result, sym, ap, ◌∙◌, subst, inl, inr, arith, length-take}
 use Rattle.std.proofs.lemmas.Bool.{cases_Bool, both_ways, cond-true, cond-false, ltb-true, ltb-false}
 use Rattle.metering.specs.declared.curve.Curve.{Curve}
 use Rattle.rulebooks.specs.declared.rule.RuleFault.{RuleFault}
 use Rattle.rulebooks.specs.Rules.{Rules, answered}
 use Rattle.ledger.specs.declared.fault.BookFault.{BookFault}
-use Rattle.ledger.specs.declared.fault.BookFault.TheVariants.{NoCurve, ShortHistory, Rule}
+use Rattle.ledger.specs.declared.fault.BookFault.TheVariants.{ShortHistory}
 use Rattle.ledger.specs.declared.terms.Terms.{Terms}
 use Rattle.ledger.specs.declared.records.Order.{Order}
 use Rattle.ledger.specs.declared.records.Resource.{Resource}
 use Rattle.ledger.specs.Words.{Granted, ◌>>=◌, at, worth, toward, lead, ordered, measured_in, total_of}
-use Rattle.ledger.specs.Settling.{Held, Part, curve_for, part, needs, qualifies, latest, by_history, by_power, quarter, sum_over, lead_over, lead_on, direction_number, ruled_at}
+use Rattle.ledger.specs.Settling.{Held, Part, curve_for, needs, qualifies, latest, by_history, by_power, quarter, sum_over, lead_over, lead_on, direction_number, ruled_at}
 use Rattle.ledger.specs.Evident.{Latest, TooFew, History}
 use Rattle.ledger.proofs.Latest.{passing, are_latest, are_all}
 

@@ -1,5 +1,5 @@
 -- The figures and the line of June 2026, by computing.
-use Rattle.std.proofs.Common.{◌≡◌, refl}
+use Rattle.std.proofs.Common.{refl}
 use Rattle.std.specs.Fmt.{digits}
 use Rattle.calendar.specs.Gregorian.{years_days, months_days, first_day, last_day}
 use Rattle.rulebooks.specs.Rounding.{rounded}

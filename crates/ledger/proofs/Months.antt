@@ -1,5 +1,5 @@
 -- What a line pay and a month's figures cannot depend on.
-use Rattle.std.proofs.Common.{◌≡◌, ℕ, zero, suc, ◌+◌, ◌-◌, ◌*◌, ◌<◌, ◌≤◌, Bool, true, false, cond, not, ◌&&◌, ◌||◌, eqb, ltb, leb, ◌⊎◌, List, [], ◌∷◌, ◌++◌, Some, None, Ok, Err, sym, refl, ap, ◌∙◌, inl, inr, arith}
+use Rattle.std.proofs.Common.{◌≡◌, ℕ, zero, suc, ◌+◌, ◌-◌, ◌*◌, ◌<◌, ◌≤◌, Bool, false, cond, not, ◌||◌, ltb, leb, ◌⊎◌, List, [], ◌∷◌, ◌++◌, Some, None, Ok, sym, refl, ap, ◌∙◌, inl, inr, arith}
 use mathlib.Core.Path.{fun_ext}
 use Rattle.std.proofs.lemmas.Bool.{cond_both, cond-false, and_cases, leb-false, cases_lt}
 use Rattle.std.proofs.lemmas.Bool.Decides.{nat_tests}
@@ -12,7 +12,7 @@ use Rattle.ledger.specs.declared.records.Outcome.{Outcome}
 use Rattle.ledger.specs.declared.records.Declaration.{Declaration}
 use Rattle.ledger.specs.Words.{Granted, ◌>>=◌, unless, counting, tally}
 use Rattle.ledger.specs.Days.{in_kinds, declares, is_declared}
-use Rattle.ledger.specs.Settling.{Part, ordered_energy, remunerated, paid_energy, cents, outcome_of}
+use Rattle.ledger.specs.Settling.{ordered_energy, remunerated, paid_energy}
 use Rattle.ledger.specs.Book.{Book, numbered, recorded, settled, in_month, booked, declared, outcome_at, outcomes_in, window_of, available, offered, days_of, month_figures, month_of}
 use Rattle.ledger.specs.Evident.{PayBounded, MonthApart}
 use Rattle.ledger.proofs.Numbers.{cents_more}

@@ -1,5 +1,5 @@
 -- A number that another is at least, and near.
-use Rattle.std.proofs.Common.{◌≡◌, ℕ, zero, suc, ◌+◌, ◌-◌, ◌*◌, ◌<◌, ◌≤◌, min, Bool, true, false, cond, ltb, List, [], ◌∷◌, map, ℤ, pos, negsuc, ◌+ℤ◌, ◌-ℤ◌, neg_ℤ, nat_abs, ◌≤ℤ◌, ◌<ℤ◌, Ok, Err, Result, sym, refl, ap, ◌∙◌, subst, mul-le-mul_right, arith}
+use Rattle.std.proofs.Common.{ℕ, ◌+◌, ◌*◌, ◌≤◌, List, [], ◌∷◌, map, ℤ, pos, negsuc, ◌+ℤ◌, ◌-ℤ◌, ◌≤ℤ◌, Ok, mul-le-mul_right, arith}
 use Rattle.std.specs.List.{AllByRecursion as All}
 use Rattle.std.proofs.lemmas.Int.{ints}
 use Rattle.std.proofs.lemmas.Bool.Decides.{nat_tests}
@@ -9,7 +9,7 @@ use Rattle.ledger.specs.declared.records.Direction.{Direction}
 use Rattle.ledger.specs.declared.records.Direction.TheVariants.{Up, Down}
 use Rattle.ledger.specs.Words.{Granted, ◌>>=◌, toward, Further, distance, apart, total_of}
 use Rattle.ledger.specs.Settling.{positive, paid_energy, cents}
-use Rattle.ledger.specs.Lives.{Both, neither, both}
+use Rattle.ledger.specs.Lives.{Both, both}
 use Rattle.ledger.proofs.Rel.{bind_both}
 
 pub record Near (a b : ℤ) (n : ℕ) : Type 0 where

@@ -1,6 +1,5 @@
 -- The orders of a book are in time order, and what follows from it for readings.
-use Rattle.std.proofs.Common.{◌≡◌, ℕ, zero, suc, ◌+◌, ◌-◌, ◌*◌, ◌<◌, ◌≤◌, Bool, true, false, cond, not, ◌&&◌, ◌||◌, T, eqb, ltb, leb, ◌⊎◌, List, [], ◌∷◌, ◌++◌, length, ℤ, pos, negsuc, ◌≤ℤ◌, Some, None, Ok, Err, vec_items, Option, Result, sym, refl, ap, ◌∙◌, subst, ap₂, inl, inr, true≢false, arith}
-use mathlib.Core.Bool.{false≢true}
+use Rattle.std.proofs.Common.{◌≡◌, ℕ, zero, suc, ◌+◌, ◌-◌, ◌<◌, ◌≤◌, Bool, true, false, not, ◌&&◌, eqb, leb, ◌⊎◌, List, [], ◌∷◌, ◌++◌, length, ℤ, None, Ok, Err, vec_items, sym, refl, ap, ◌∙◌, subst, inl, inr, true≢false, arith}
 use mathlib.Core.List.Memᴰ
 use mathlib.Core.List.{Memᴰ}
 use lib.Signed.{≤ℤ_refl}
@@ -8,9 +7,6 @@ use Rattle.std.specs.List.{AllByRecursion as All}
 use Rattle.std.proofs.ByRecursion.{All-push}
 use Rattle.std.proofs.lemmas.Bool.{leb-true, ltb-true, eq-eqb, and_parts, or_left, or_right}
 use Rattle.metering.specs.declared.reading.Reading.{Reading}
-use Rattle.metering.specs.declared.reading.Reading.TheVariants.{Measured}
-use Rattle.stores.specs.Model.{put_into, raised_to}
-use Rattle.ledger.specs.declared.fault.BookFault.{BookFault}
 use Rattle.ledger.specs.declared.fault.BookFault.TheVariants.{Number, Outside, TooSoon, ManyOrders}
 use Rattle.ledger.specs.declared.terms.Terms.{Terms}
 use Rattle.ledger.specs.declared.records.Direction.{Direction}
@@ -21,8 +17,8 @@ use Rattle.ledger.specs.declared.records.Booked.{Booked}
 use Rattle.ledger.specs.declared.life.Call.{Call}
 use Rattle.ledger.specs.declared.life.Call.TheVariants.{Register, Enter, Drop, Book as Ordering, Declare, Settle, Month as Monthly}
 use Rattle.ledger.specs.Words.{Granted, ◌>>=◌, unless, worth, Further}
-use Rattle.ledger.specs.Days.{starts, ends, rests_before, are_quarters, in_window, in_kinds}
-use Rattle.ledger.specs.Book.{Book, orders_in, with_store, with_orders, may_register, registered, may_enter, may_drop, in_time, order_fits, may_book, booked, may_declare, declared, busy_on, recorded, settlement, settled, month_of}
+use Rattle.ledger.specs.Days.{starts, ends, in_window, in_kinds}
+use Rattle.ledger.specs.Book.{Book, orders_in, may_register, may_enter, may_drop, in_time, order_fits, may_book, may_declare, busy_on, recorded, settlement, month_of}
 use Rattle.ledger.specs.Run.{Step, grant, order_from, step, final}
 use Rattle.ledger.specs.Lives.{Moved, same, further}
 use Rattle.ledger.proofs.Brought.{Apart}

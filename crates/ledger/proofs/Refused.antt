@@ -1,14 +1,14 @@
 -- Each refusal of each call, on a book that shows it, by computing.
-use Rattle.std.proofs.Common.{◌≡◌, ℕ, Bool, true, false, cond, ◌&&◌, leb, List, [], ◌∷◌, ◌++◌, length, replicate, pos, Some, None, Ok, Err, refl}
+use Rattle.std.proofs.Common.{◌≡◌, ℕ, true, false, cond, ◌&&◌, leb, ◌∷◌, length, replicate, pos, Some, None, Ok, Err, refl}
 use Rattle.calendar.specs.Gregorian.{years_days, months_days, first_day, last_day}
-use Rattle.stores.specs.declared.fault.StoreFault.TheVariants.{Day, Resource, UnderFloor, Held}
+use Rattle.stores.specs.declared.fault.StoreFault.TheVariants.{Day, UnderFloor, Held}
 use Rattle.stores.specs.Model.{StoreModel}
 use Rattle.rulebooks.specs.Supplied.{supplied_rules}
 use Rattle.ledger.specs.declared.fault.BookFault.TheVariants.{Fields, OrdersBooked, NoRoom, UnknownChoice, NotRegistered, Number, Outside, TooSoon, ManyOrders, Declared, ManyDeclarations, NoOrder, Settled, NoCurve, NoMonth, Unsettled, ShortMemory, Store}
 use Rattle.ledger.specs.declared.records.Direction.TheVariants.{Up}
 use Rattle.ledger.specs.declared.records.Order.{Order}
 use Rattle.ledger.specs.Days.{are_quarters, in_window, in_kinds, shares}
-use Rattle.ledger.specs.Book.{Book, orders_in, fresh, registered, may_register, may_enter, may_drop, order_fits, in_time, may_book, booked, may_declare, declared, settlement, settled, month_of}
+use Rattle.ledger.specs.Book.{Book, orders_in, fresh, may_register, may_enter, may_drop, order_fits, in_time, may_book, booked, may_declare, declared, settlement, settled, month_of}
 use Rattle.ledger.specs.Figures.{working, flat, book_on, monday, four_quarters, empty_keeper}
 
 -- room for two, with a curve of the first for day 7 and a floor at day 5

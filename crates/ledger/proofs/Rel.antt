@@ -1,11 +1,10 @@
 -- Two computations that may be refused, side by side; and sums over lists.
-use Rattle.std.proofs.Common.{◌≡◌, ℕ, zero, suc, ◌+◌, ◌-◌, ◌<◌, ◌≤◌, Bool, true, false, cond, not, ◌&&◌, ltb, List, [], ◌∷◌, ◌++◌, map, length, take, ℤ, pos, ◌+ℤ◌, Ok, Err, filter, Result, sym, refl, ap, ◌∙◌, subst, ap₂, true≢false, arith}
+use Rattle.std.proofs.Common.{◌≡◌, ℕ, zero, suc, ◌+◌, ◌<◌, ◌≤◌, Bool, true, false, cond, ltb, List, [], ◌∷◌, length, take, ℤ, ◌+ℤ◌, Ok, Err, filter, refl, ap₂, true≢false, arith}
 use mathlib.Core.Bool.{false≢true}
 use Rattle.std.specs.List.{AllByRecursion as All}
 use Rattle.std.proofs.ByRecursion.{All-take, All-weaker}
-use Rattle.ledger.specs.declared.fault.BookFault.{BookFault}
 use Rattle.ledger.specs.declared.fault.BookFault.TheVariants.{ShortHistory}
-use Rattle.ledger.specs.Words.{Granted, ◌>>=◌, total, total_of, each, counting, days_before}
+use Rattle.ledger.specs.Words.{Granted, ◌>>=◌, total, each, counting, days_before}
 use Rattle.ledger.specs.Settling.{latest}
 use Rattle.ledger.specs.Lives.{Both, neither, both}
 

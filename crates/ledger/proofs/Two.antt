@@ -1,7 +1,6 @@
 -- Two lives, call by call.
-use Rattle.std.proofs.Common.{◌≡◌, ℕ, zero, suc, ◌+◌, ◌-◌, ◌*◌, ◌<◌, ◌≤◌, max, Bool, true, false, cond, not, ◌&&◌, ◌||◌, T, eqb, ltb, leb, List, [], ◌∷◌, ◌++◌, length, ℤ, pos, is_some, Some, None, Ok, Err, vec_items, Option, Result, sym, refl, ap, ◌∙◌, subst, ap₂, true≢false, arith}
+use Rattle.std.proofs.Common.{◌≡◌, ℕ, zero, suc, ◌+◌, ◌-◌, ◌*◌, ◌≤◌, max, Bool, true, false, cond, not, ◌&&◌, eqb, ltb, leb, List, [], ◌∷◌, length, ℤ, is_some, Some, None, Ok, Err, vec_items, Option, Result, sym, refl, ap, subst, ap₂, arith}
 use mathlib.Core.Path.{fun_ext}
-use mathlib.Core.Bool.{false≢true}
 use mathlib.Core.List.{Memᴰ}
 use Rattle.std.specs.List.{AllZip}
 use Rattle.std.proofs.lemmas.List.Elements.{AllZip-push}
@@ -10,9 +9,8 @@ use Rattle.calendar.specs.Gregorian.{is_month, first_day, last_day}
 use Rattle.metering.specs.declared.curve.Curve.{Curve}
 use Rattle.stores.specs.declared.fault.StoreFault.{StoreFault}
 use Rattle.stores.specs.declared.fault.StoreFault.TheVariants.{Day, Resource as NoResource, UnderFloor, Held, Full}
-use Rattle.stores.specs.Model.{StoreModel, sum_below, one, held_from, new_floor, put_answer, cut_under, gained, put_into, drop_answer, raised_to}
+use Rattle.stores.specs.Model.{StoreModel, sum_below, one, held_from, put_answer, cut_under, gained, put_into, raised_to}
 use Rattle.rulebooks.specs.Rules.{Rules}
-use Rattle.rulebooks.specs.Rounding.{rounded}
 use Rattle.ledger.specs.declared.fault.BookFault.{BookFault}
 use Rattle.ledger.specs.declared.fault.BookFault.TheVariants.{Fields, OrdersBooked, NoRoom, UnknownChoice, NotRegistered, Number, Outside, TooSoon, ManyOrders, ShortMemory, NoMonth}
 use Rattle.ledger.specs.declared.terms.Terms.{Terms}
@@ -21,22 +19,21 @@ use Rattle.ledger.specs.declared.records.Outcome.{Outcome}
 use Rattle.ledger.specs.declared.records.Booked.{Booked}
 use Rattle.ledger.specs.declared.records.Resource.{Resource}
 use Rattle.ledger.specs.declared.records.Declaration.{Declaration}
-use Rattle.ledger.specs.declared.records.Month.{Month}
 use Rattle.ledger.specs.declared.life.Call.{Call}
 use Rattle.ledger.specs.declared.life.Call.TheVariants.{Register, Enter, Drop, Book as Ordering, Declare, Settle, Month as Monthly}
 use Rattle.ledger.specs.declared.life.Answer.{Answer}
-use Rattle.ledger.specs.declared.life.Answer.TheVariants.{Refused, Registered, Entered, Dropped, Booked as Numbered, Declared, Settled, Month as Figures}
+use Rattle.ledger.specs.declared.life.Answer.TheVariants.{Registered, Entered, Dropped, Booked as Numbered, Declared, Settled, Month as Figures}
 use Rattle.ledger.specs.Words.{Granted, ◌>>=◌, unless, tally}
 use Rattle.ledger.specs.Days.{in_window, in_kinds}
-use Rattle.ledger.specs.Settling.{parts, numbered_from, cents}
+use Rattle.ledger.specs.Settling.{parts}
 use Rattle.ledger.specs.Book.{Book, fresh, orders_in, may_register, registered, may_enter, may_drop, may_book, booked, may_declare, declared, numbered, unsettled, busy_on, recorded, Settlement, settlement_of, settlement, settled, in_month, outcome_at, outcomes_in, available, offered, days_of, month_figures, month_of, with_store, fields_fit, is_empty, chosen, order_fits, in_time, passed}
 use Rattle.ledger.specs.Run.{Step, grant, sheet_of, order_from, step, run, final, orders_of}
-use Rattle.ledger.specs.Lives.{Moved, same, MovedCurve, Alike, the_same, entering, held_for, added_to, added_at, added_by, NoWorse, Better, same_answer, both_settled, both_months, Compared, TwoLives, NoWorseLife, ended, going, Second, Both, neither, both}
+use Rattle.ledger.specs.Lives.{same, MovedCurve, Alike, the_same, entering, added_to, added_at, added_by, Better, same_answer, both_settled, both_months, Compared, TwoLives, NoWorseLife, ended, going, Second, Both, neither, both}
 use Rattle.ledger.proofs.Rel.{bind_both, cond_both}
 use Rattle.ledger.proofs.Numbers.{cents_more}
 use Rattle.ledger.proofs.Brought.{Beheld, not_held, held_both, Apart}
-use Rattle.ledger.proofs.Whole.{Improved, settle_near, gap_for}
-use Rattle.ledger.proofs.Orders.{Chain, Kept, Grown, step_kept, final_kept, apart_of}
+use Rattle.ledger.proofs.Whole.{Improved, settle_near}
+use Rattle.ledger.proofs.Orders.{Chain, Kept, step_kept, final_kept, apart_of}
 
 -- a curve is held in both stores or in neither, and differs only where one of the orders stands
 abbrev pub Looks : List Order → (ℕ → ℕ → Option Curve) → (ℕ → ℕ → Option Curve) → Type 0

@@ -1,15 +1,14 @@
 -- A settling in two stores that differ only where an order stands.
-use Rattle.std.proofs.Common.{◌≡◌, ℕ, zero, suc, ◌+◌, ◌-◌, ◌<◌, ◌≤◌, min, Bool, true, false, cond, ◌||◌, List, [], ◌∷◌, ◌++◌, map, length, replicate, ℤ, pos, ◌+ℤ◌, Ok, Err, Option, sym, refl, ap, ◌∙◌, subst, ap₂, arith}
-use Rattle.metering.specs.declared.curve.Curve.{Curve}
+use Rattle.std.proofs.Common.{◌≡◌, ℕ, ◌+◌, ◌-◌, ◌≤◌, min, Bool, true, false, cond, ◌||◌, List, [], ◌∷◌, ◌++◌, map, length, replicate, ℤ, pos, Ok, refl, ap, subst, ap₂, arith}
 use Rattle.rulebooks.specs.Rules.{Rules}
 use Rattle.ledger.specs.declared.terms.Terms.{Terms}
 use Rattle.ledger.specs.declared.records.Order.{Order}
 use Rattle.ledger.specs.declared.records.Resource.{Resource}
-use Rattle.ledger.specs.Words.{Granted, ◌>>=◌, ordered, total, each, apart, tally}
-use Rattle.ledger.specs.Settling.{Held, Part, part, parts, reading_on, numbered_from, positive, ordered_energy, any_estimated, sum_of, delivered_energy, remunerated, paid_energy, cents, outcome_of, evidence_row, evidence}
+use Rattle.ledger.specs.Words.{◌>>=◌, ordered, apart, tally}
+use Rattle.ledger.specs.Settling.{Held, Part, part, parts, reading_on, numbered_from, positive, ordered_energy, any_estimated, sum_of, remunerated, paid_energy, evidence}
 use Rattle.ledger.specs.Book.{Settlement, settlement_of}
 use Rattle.ledger.specs.Run.{sheet_of}
-use Rattle.ledger.specs.Lives.{MovedCurve, NoWorse, Both, neither, both}
+use Rattle.ledger.specs.Lives.{MovedCurve, NoWorse, Both, both}
 use Rattle.ledger.proofs.Rel.{bind_both, EachFor, each_both}
 use Rattle.ledger.proofs.Numbers.{Near, near_none, near_add, positive_near, paid_more, cents_more}
 use Rattle.ledger.proofs.Brought.{Beheld, PartNear, Apart, part_near}

@@ -1,13 +1,11 @@
 -- What a book means, and what each call on it answers and leaves.
-use Rattle.std.specs.Prelude.{ℕ, zero, suc, ◌+◌, ◌-◌, ◌*◌, ◌/◌, ◌%◌, Bool, true, false, cond, not, ◌&&◌, ◌||◌, List, [], ◌∷◌, ◌++◌, map, length, replicate, ℤ, pos, is_some, Some, None, Ok, Err, Option, Result, ◌==◌, nat_le, nat_lt}
+use Rattle.std.specs.Prelude.{ℕ, zero, suc, ◌+◌, ◌-◌, ◌*◌, Bool, true, false, cond, not, ◌&&◌, ◌||◌, List, [], ◌∷◌, ◌++◌, length, pos, is_some, Some, None, Ok, Err, Option, Result, ◌==◌, nat_le, nat_lt}
 use Rattle.std.specs.Str.{bytes_eq}
 use Rattle.calendar.specs.Gregorian.{is_month, first_day, last_day}
-use Rattle.metering.specs.declared.curve.Curve.{Curve}
 use Rattle.stores.specs.declared.fault.StoreFault.{StoreFault}
-use Rattle.stores.specs.Model.{StoreModel, put_answer, put_into, drop_answer, raised_to}
+use Rattle.stores.specs.Model.{StoreModel, put_answer, drop_answer}
 use Rattle.rulebooks.specs.Rules.{Rules}
 use Rattle.rulebooks.specs.Rounding.{rounded}
-use Rattle.ledger.specs.declared.fault.BookFault.{BookFault}
 use Rattle.ledger.specs.declared.fault.BookFault.TheVariants.{Fields, OrdersBooked, NoRoom, UnknownChoice, NotRegistered, Number, Outside, TooSoon, ManyOrders, Declared, ManyDeclarations, NoOrder, Settled, NoMonth, Unsettled, ShortMemory, Store}
 use Rattle.ledger.specs.declared.terms.Terms.{Terms}
 use Rattle.ledger.specs.declared.records.Direction.{Direction}

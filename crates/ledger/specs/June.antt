@@ -1,5 +1,5 @@
 -- The month of June 2026 and its line, from the definitions.
-use Rattle.std.specs.Prelude.{◌≡◌, ℕ, zero, suc, ◌+◌, ◌<◌, ◌≤◌, List, [], ◌∷◌, ◌++◌, replicate, pos, Some, Ok, codes, slice_index, refl}
+use Rattle.std.specs.Prelude.{◌≡◌, ℕ, zero, suc, ◌<◌, ◌≤◌, [], ◌∷◌, ◌++◌, replicate, pos, Some, Ok, codes, slice_index, refl}
 use Rattle.std.proofs.Common.{arith}
 use Rattle.rulebooks.specs.Supplied.{supplied_rules}
 use Rattle.ledger.specs.declared.terms.Terms.{Terms}

@@ -1,8 +1,7 @@
 -- Two lives that differ only in how far pools went in the ordered direction, and what holds of them.
-use Rattle.std.specs.Prelude.{◌≡◌, ℕ, ◌+◌, ◌*◌, ◌<◌, ◌≤◌, cond, ◌⊎◌, List, [], ◌∷◌, map, ℤ, pos, ◌≤ℤ◌, Some, None, Ok, Err, Option, Result, Vec, ◌==◌}
+use Rattle.std.specs.Prelude.{◌≡◌, ℕ, ◌+◌, ◌*◌, ◌<◌, ◌≤◌, cond, ◌⊎◌, List, [], ◌∷◌, map, ℤ, Some, Ok, Err, ◌==◌}
 use mathlib.Core.List.{Memᴰ}
 use Rattle.std.specs.List.{AllZip, AllByRecursion as All}
-use Rattle.std.specs.declared.alloc.Global.{Global}
 use Rattle.metering.specs.declared.reading.Reading.{Reading}
 use Rattle.metering.specs.declared.reading.Reading.TheVariants.{Measured}
 use Rattle.metering.specs.declared.curve.Curve.{Curve}
@@ -22,8 +21,8 @@ use Rattle.ledger.specs.declared.life.Answer.{Answer}
 use Rattle.ledger.specs.declared.life.Answer.TheVariants.{Refused, Registered, Entered, Dropped, Booked as Numbered, Declared, Settled, Month as Figures}
 use Rattle.ledger.specs.Words.{Granted, at, apart, ordered, tally, Further}
 use Rattle.ledger.specs.Settling.{reading_on, numbered_from}
-use Rattle.ledger.specs.Book.{Book, fresh, numbered, Settlement, settlement}
-use Rattle.ledger.specs.Run.{Step, step, run, final, orders_of}
+use Rattle.ledger.specs.Book.{Book, fresh, numbered, settlement}
+use Rattle.ledger.specs.Run.{step, run, orders_of}
 
 -- WHEN TWO LIVES DIFFER ONLY SO
 

@@ -1,5 +1,5 @@
 -- A life: a list of calls on a book, one after the other.
-use Rattle.std.specs.Prelude.{ℕ, ◌-◌, Bool, true, false, cond, List, [], ◌∷◌, ◌++◌, length, replicate, ℤ, pos, Ok, Err, vec_items, Result}
+use Rattle.std.specs.Prelude.{ℕ, ◌-◌, List, [], ◌∷◌, ◌++◌, length, replicate, ℤ, pos, Ok, Err, vec_items}
 use Rattle.stores.specs.Model.{put_into, raised_to}
 use Rattle.ledger.specs.declared.records.Order.{Order}
 use Rattle.ledger.specs.declared.life.Call.{Call}
@@ -8,7 +8,7 @@ use Rattle.ledger.specs.declared.life.Answer.{Answer}
 use Rattle.ledger.specs.declared.life.Answer.TheVariants.{Refused, Registered, Entered, Dropped, Booked as Numbered, Declared, Settled, Month as Figures}
 use Rattle.ledger.specs.Words.{Granted}
 use Rattle.ledger.specs.Settling.{Part, evidence}
-use Rattle.ledger.specs.Book.{Book, orders_in, with_store, may_register, registered, may_enter, may_drop, direction_of, may_book, booked, may_declare, declared, Settlement, settlement, settled, month_of}
+use Rattle.ledger.specs.Book.{Book, orders_in, with_store, may_register, registered, may_enter, may_drop, direction_of, may_book, booked, may_declare, declared, settlement, settled, month_of}
 
 -- a call's answer, and the book after it
 pub record Step : Type 0 where

@@ -1,11 +1,10 @@
 -- What an order settles at.
-use Rattle.std.specs.Prelude.{ℕ, zero, suc, ◌+◌, ◌-◌, ◌*◌, min, Bool, true, false, cond, not, ◌&&◌, ◌||◌, List, [], ◌∷◌, ◌++◌, map, length, take, replicate, ℤ, pos, negsuc, ◌-ℤ◌, Some, None, Ok, Err, filter, Option, Result, nat_lt}
+use Rattle.std.specs.Prelude.{ℕ, zero, suc, ◌-◌, ◌*◌, min, Bool, true, false, cond, not, ◌&&◌, ◌||◌, List, [], ◌∷◌, ◌++◌, map, length, take, replicate, ℤ, pos, negsuc, ◌-ℤ◌, Some, None, Ok, Err, filter, Option, Result, nat_lt}
 use Rattle.std.specs.Option.{unwrap_or}
 use Rattle.metering.specs.declared.curve.Curve.{Curve}
 use Rattle.rulebooks.specs.declared.rule.RuleFault.{RuleFault}
 use Rattle.rulebooks.specs.Rules.{Rules, answered}
 use Rattle.rulebooks.specs.Rounding.{rounded}
-use Rattle.ledger.specs.declared.fault.BookFault.{BookFault}
 use Rattle.ledger.specs.declared.fault.BookFault.TheVariants.{NoCurve, ShortHistory, Rule}
 use Rattle.ledger.specs.declared.terms.Terms.{Terms}
 use Rattle.ledger.specs.declared.records.Direction.{Direction}

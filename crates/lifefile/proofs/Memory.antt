@@ -1,6 +1,6 @@
 -- A ring without memory is the ring of any memory that does not fit.
-use Rattle.std.proofs.Common.{◌≡◌, ℕ, ◌*◌, ◌≤◌, Bool, true, false, cond, ◌&&◌, eqb, leb, is_ok, sym, ap, ◌∙◌, ⊎_elim, mul-le-mul, arith}
-use Rattle.std.proofs.lemmas.Bool.{cases_Bool, and_left, and_right, cond-false, leb-true, ne_eqb}
+use Rattle.std.proofs.Common.{◌≡◌, ℕ, ◌*◌, ◌≤◌, Bool, true, false, cond, eqb, leb, is_ok, sym, ap, ◌∙◌, ⊎_elim, mul-le-mul, arith}
+use Rattle.std.proofs.lemmas.Bool.{cases_Bool, and_left, and_right, leb-true, ne_eqb}
 use Rattle.stores.specs.Making.{fit_answer, fresh}
 use Rattle.stores.specs.Ring.{ring_fits, ring_made}
 

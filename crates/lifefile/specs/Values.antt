@@ -1,5 +1,5 @@
 -- What a value of a curve means, by its bytes.
-use Rattle.std.specs.Prelude.{ℕ, Bool, cond, ◌&&◌, List, length, drop, Some, None, Option, ◌==◌, slice_index}
+use Rattle.std.specs.Prelude.{ℕ, cond, ◌&&◌, List, length, drop, Some, Option, ◌==◌, slice_index}
 use Rattle.std.specs.Option.{option_map}
 use Rattle.lifefile.specs.declared.values.Value.{Value}
 use Rattle.lifefile.specs.Words.{number_in}

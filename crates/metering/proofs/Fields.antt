@@ -1,21 +1,20 @@
 -- The state inside a field tells what the whole field says.
-use Rattle.std.proofs.Common.{◌≡◌, ℕ, zero, suc, ◌+◌, ◌-◌, ◌*◌, ◌/◌, ◌%◌, ◌^◌, ◌<◌, ◌≤◌, Bool, true, false, cond, eqb, ltb, leb, ◌⊎◌, List, [], ◌∷◌, ◌++◌, length, take, set, is_some, Some, None, codes, decimal, Option, sym, refl, ap, ◌∙◌, subst, inl, inr, ⊎_elim, append_assoc, add-one, arith, length-append, length-set, length-take-le, take-suc-set}
+use Rattle.std.proofs.Common.{◌≡◌, ℕ, zero, suc, ◌+◌, ◌-◌, ◌*◌, ◌/◌, ◌%◌, ◌^◌, ◌<◌, ◌≤◌, true, false, eqb, ltb, leb, List, [], ◌∷◌, ◌++◌, length, take, is_some, Some, None, codes, decimal, Option, sym, refl, ap, ◌∙◌, inl, inr, ⊎_elim, append_assoc, add-one, arith, length-append, length-set, length-take-le, take-suc-set}
 use Rattle.std.specs.Str.{bytes_eq}
 use Rattle.std.proofs.lemmas.List.{append-nil}
 use Rattle.std.proofs.lemmas.Bool.Decides.{nat_tests}
 use Rattle.std.proofs.lemmas.Slice.Eq.{bytes_eq-Decides}
 use Rattle.std.proofs.lemmas.Fmt.{decimal_step, decimal_digit, decimal_by_steps}
-use Rattle.std.proofs.lemmas.Bool.{cases_Bool, cond_both, leb-true, leb-false, ltb-true, ltb-false, eqb-true, eqb-false, eq-eqb, le-leb, lt-ltb, cond-true, cond-false}
-use Rattle.metering.specs.declared.columns.Column.{Column}
+use Rattle.std.proofs.lemmas.Bool.{cases_Bool, cond_both, leb-true, leb-false, ltb-true, ltb-false, eqb-true, eq-eqb, le-leb, lt-ltb, cond-true}
 use Rattle.metering.specs.declared.columns.Column.TheVariants.{Other}
 use Rattle.metering.specs.declared.columns.Kind.{Kind}
 use Rattle.metering.specs.declared.columns.Kind.TheVariants.{Name, Count, Energy, Letter, Skipped, Beyond}
 use Rattle.metering.specs.declared.columns.Value.{Value}
-use Rattle.metering.specs.declared.columns.Value.TheVariants.{Named, Passed, Amount, Mark}
+use Rattle.metering.specs.declared.columns.Value.TheVariants.{Named, Passed, Amount}
 use Rattle.metering.specs.declared.columns.Place.{Place}
 use Rattle.metering.specs.declared.cell.Cell.{Cell}
 use Rattle.metering.specs.declared.cell.Cell.TheVariants.{Spelled, Long, Number, Whole, Fraction, Letter as AtLetter, Measured, Estimated, Skipped as Skipping, Beyond as Shut}
-use Rattle.metering.specs.Cells.{column_of, energy, Shows, Read, pushed, start, digit, stepped, finished, as_name}
+use Rattle.metering.specs.Cells.{column_of, energy, Shows, Read, start, digit, stepped, finished, as_name}
 use Rattle.metering.specs.Places.{kind_at}
 
 abbrev pub onward : {S T : Type 0} → Option S → (S → Option T) → Option T

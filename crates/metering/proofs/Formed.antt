@@ -1,5 +1,5 @@
 -- One quarter more is formed.
-use Rattle.std.proofs.Common.{◌≡◌, ℕ, ◌+◌, ◌<◌, Bool, true, false, cond, ltb, ◌≢◌, List, length, get_or, set, pos, Some, sym, refl, ap, ◌∙◌, arith, get_or-set_other, get_or-set_same, below_more}
+use Rattle.std.proofs.Common.{◌≡◌, ℕ, ◌+◌, ◌<◌, Bool, true, ltb, ◌≢◌, List, length, get_or, set, pos, Some, sym, ap, ◌∙◌, arith, get_or-set_other, get_or-set_same, below_more}
 use Rattle.std.proofs.lemmas.Bool.{cond-true, lt-ltb}
 use Rattle.metering.specs.declared.reading.Reading.{Reading}
 use Rattle.metering.specs.declared.reading.Reading.TheVariants.{Measured}

@@ -1,7 +1,6 @@
 -- The machine gives what the text means.
-use Rattle.std.proofs.Common.{◌≡◌, ℕ, Bool, true, false, cond, eqb, List, [], ◌∷◌, Some, None, Ok, Err, Option, Result, sym, refl, ap, ◌∙◌, subst, ⊎_elim}
-use Rattle.std.proofs.lemmas.Bool.{cases_Bool, cond-true, cond-false, eqb-true}
-use Rattle.metering.specs.declared.columns.Kind.{Kind}
+use Rattle.std.proofs.Common.{◌≡◌, ℕ, true, false, cond, eqb, List, [], ◌∷◌, Some, None, Ok, Err, Option, Result, sym, refl, ap, ◌∙◌, subst, ⊎_elim}
+use Rattle.std.proofs.lemmas.Bool.{cases_Bool, cond-false, eqb-true}
 use Rattle.metering.specs.declared.columns.Kind.TheVariants.{Name, Beyond}
 use Rattle.metering.specs.declared.columns.Place.{Place}
 use Rattle.metering.specs.declared.cell.Cell.{Cell}
@@ -11,7 +10,7 @@ use Rattle.metering.specs.Cells.{start, stepped, finished}
 use Rattle.metering.specs.Places.{fault_at, kind_at}
 use Rattle.metering.specs.Progress.{Progress, begun}
 use Rattle.metering.specs.Meaning.{Taken, judged, early, ended, Goes, Means}
-use Rattle.metering.specs.Machine.{fresh, within, ends, next, proceed, runs, begin}
+use Rattle.metering.specs.Machine.{fresh, within, ends, proceed, runs, begin}
 use Rattle.metering.proofs.Fields.{onward, ran, read_from, name_ran, reads_at}
 
 -- the text ends inside a field: its state may have refused a byte before

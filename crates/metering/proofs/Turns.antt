@@ -1,5 +1,5 @@
 -- One byte of the run: the machine goes on, or stops with its refusal.
-use Rattle.std.proofs.Common.{◌≡◌, ℕ, List, Ok, Err, Result, sym, refl, ap, ◌∙◌, arith}
+use Rattle.std.proofs.Common.{◌≡◌, ℕ, Ok, Err, Result, sym, ap, arith}
 use Rattle.metering.specs.declared.fault.Fault.{Fault}
 use Rattle.metering.specs.Machine.{Machine, verdict, after, proceed}
 

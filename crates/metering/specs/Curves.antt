@@ -2,7 +2,7 @@
 use Rattle.std.specs.Prelude.{◌≡◌, ℕ, zero, suc, ◌<◌, Bool, true, false, cond, List, [], ◌∷◌, length, refl}
 use Rattle.std.proofs.Common.{ap, arith}
 use Rattle.metering.specs.declared.reading.Reading.{Reading}
-use Rattle.metering.specs.declared.reading.Reading.TheVariants.{Measured, Estimated}
+use Rattle.metering.specs.declared.reading.Reading.TheVariants.{Estimated}
 use Rattle.metering.specs.declared.curve.Curve.{Curve}
 use Rattle.metering.specs.Readings.{within, reading_in}
 

@@ -1,5 +1,5 @@
 -- A well-formed export: what it is, however its columns are ordered and whatever columns it has beside the four.
-use Rattle.std.specs.Prelude.{◌≡◌, ℕ, ◌+◌, ◌-◌, ◌<◌, ◌≤◌, Bool, true, false, ◌⊎◌, List, [], ◌∷◌, ◌++◌, length, pos, ◌-ℤ◌, Ok, Err, codes, decimal, Result, slice_index_or}
+use Rattle.std.specs.Prelude.{◌≡◌, ℕ, ◌-◌, ◌<◌, ◌≤◌, false, ◌⊎◌, List, [], ◌∷◌, ◌++◌, length, pos, ◌-ℤ◌, Ok, codes, decimal, Result, slice_index_or}
 use Rattle.metering.specs.declared.reading.Reading.{Reading}
 use Rattle.metering.specs.declared.reading.Reading.TheVariants.{Measured, Estimated}
 use Rattle.metering.specs.declared.columns.Columns.{Columns}

@@ -1,5 +1,5 @@
 -- Forming a curve from 96 injected energies, 96 drawn ones and 96 marks (0 measured, 1 estimated).
-use Rattle.std.specs.Prelude.{◌≡◌, ℕ, ◌<◌, Bool, true, false, cond, ◌⊎◌, List, length, Some, None, Ok, Err, Option, Result, ◌==◌, slice_index}
+use Rattle.std.specs.Prelude.{◌≡◌, ℕ, ◌<◌, Bool, true, false, cond, List, length, Some, None, Ok, Err, Option, Result, ◌==◌, slice_index}
 use Rattle.metering.specs.declared.reading.Reading.{Reading}
 use Rattle.metering.specs.declared.curve.Curve.{Curve}
 use Rattle.metering.specs.declared.fault.Fault.{Fault}

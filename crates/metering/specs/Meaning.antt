@@ -1,10 +1,10 @@
 -- What a text means: its fields judged one by one, in reading order.
-use Rattle.std.specs.Prelude.{◌≡◌, ℕ, ◌<◌, ◌≤◌, Bool, true, false, cond, List, [], ◌∷◌, length, Some, None, Ok, Err, Option, Result, ◌==◌}
+use Rattle.std.specs.Prelude.{◌≡◌, ℕ, ◌<◌, ◌≤◌, cond, List, [], ◌∷◌, length, Some, None, Ok, Err, Option, Result, ◌==◌}
 use Rattle.metering.specs.declared.reading.Reading.{Reading}
 use Rattle.metering.specs.declared.columns.Value.{Value}
 use Rattle.metering.specs.declared.columns.Columns.{Columns}
 use Rattle.metering.specs.declared.fault.Fault.{Fault}
-use Rattle.metering.specs.declared.fault.Fault.TheVariants.{Header, Row}
+use Rattle.metering.specs.declared.fault.Fault.TheVariants.{Header}
 use Rattle.metering.specs.Text.{Text, field, rest, cut}
 use Rattle.metering.specs.Places.{fault_at, kind_at}
 use Rattle.metering.specs.Cells.{Read}

@@ -1,5 +1,5 @@
 -- The place of a field: its line and column, from 1, and what the first line has said of the columns.
-use Rattle.std.specs.Prelude.{◌≡◌, ℕ, ◌+◌, ◌-◌, Bool, true, false, cond, Some, None, Ok, Err, Option, Result, ◌==◌, nat_le}
+use Rattle.std.specs.Prelude.{ℕ, ◌+◌, ◌-◌, Bool, true, cond, Some, None, Ok, Err, Option, Result, ◌==◌, nat_le}
 use Rattle.metering.specs.declared.columns.Column.{Column}
 use Rattle.metering.specs.declared.columns.Column.TheVariants.{Quarter, A1, A2, State, Other}
 use Rattle.metering.specs.declared.columns.Kind.{Kind}

@@ -1,10 +1,9 @@
 -- How far a text has been read, field by field: the place, the row so far, the readings of the rows before.
-use Rattle.std.specs.Prelude.{ℕ, ◌-◌, Bool, true, false, cond, List, replicate, Some, None, Ok, Err, Option, Result, ◌==◌, nat_lt}
+use Rattle.std.specs.Prelude.{ℕ, ◌-◌, false, cond, List, replicate, Some, None, Ok, Err, Option, Result, ◌==◌, nat_lt}
 use Rattle.metering.specs.declared.reading.Reading.{Reading}
 use Rattle.metering.specs.declared.reading.Reading.TheVariants.{Estimated}
 use Rattle.metering.specs.declared.columns.Value.{Value}
 use Rattle.metering.specs.declared.columns.Value.TheVariants.{Named, Passed, Amount, Mark}
-use Rattle.metering.specs.declared.columns.Columns.{Columns}
 use Rattle.metering.specs.declared.columns.Place.{Place}
 use Rattle.metering.specs.declared.reader.Row.{Row}
 use Rattle.metering.specs.declared.fault.Fault.{Fault}

@@ -1,5 +1,5 @@
 -- A reading: what a meter injected minus what it drew in a quarter, in Wh, each from 0 to 1,000,000; or estimated.
-use Rattle.std.specs.Prelude.{ℕ, Bool, true, false, cond, List, ℤ, pos, negsuc, ◌-ℤ◌, Some, None, Option, nat_le, nat_lt, slice_index_or, slice_set}
+use Rattle.std.specs.Prelude.{ℕ, Bool, true, cond, List, pos, negsuc, ◌-ℤ◌, Some, None, Option, nat_le, nat_lt, slice_index_or, slice_set}
 use Rattle.metering.specs.declared.reading.Reading.{Reading}
 use Rattle.metering.specs.declared.reading.Reading.TheVariants.{Measured, Estimated}
 

@@ -1,5 +1,4 @@
 -- What each refusal of forming and importing tells: number, layer, two places.
-use Rattle.std.specs.Prelude.{ℕ}
 use Rattle.refusals.specs.declared.Refusal.{Refusal}
 use Rattle.refusals.specs.declared.Layer.TheVariants.{Import}
 use Rattle.metering.specs.declared.fault.Fault.{Fault}

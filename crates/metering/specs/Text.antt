@@ -1,5 +1,5 @@
 -- A text as its fields: a semicolon (59) ends a field, a line feed (10) a line.
-use Rattle.std.specs.Prelude.{◌≡◌, ℕ, Bool, true, false, cond, List, [], ◌∷◌, ◌++◌, ◌==◌}
+use Rattle.std.specs.Prelude.{ℕ, Bool, true, cond, List, [], ◌∷◌, ◌==◌}
 
 -- a field, the separator that ends it and the text after it; or what stands after the last separator
 pub data Text : Type 0 where

@@ -1,8 +1,8 @@
-use Rattle.std.proofs.Common.{◌≡◌, ℕ, zero, suc, ◌+◌, ◌-◌, ◌*◌, ◌/◌, ◌%◌, ◌^◌, ◌<◌, ◌≤◌, true, false, eqb, List, [], ◌∷◌, ◌++◌, length, get_or, take, drop, set, decimal, sym, refl, ap, ◌∙◌, append_assoc, pow-suc, div-one, add-one, arith, length-append, length-drop, length-set, rules, ne_eqb}
+use Rattle.std.proofs.Common.{◌≡◌, ℕ, zero, suc, ◌+◌, ◌-◌, ◌/◌, ◌%◌, ◌^◌, ◌<◌, ◌≤◌, List, [], ◌∷◌, ◌++◌, length, take, drop, set, decimal, sym, refl, ap, ◌∙◌, append_assoc, pow-suc, div-one, add-one, arith, length-append, length-drop}
 use native.Mathlib.Nat.{div-div-eq-div-mul}
-use Rattle.std.proofs.lemmas.List.{places, drop-set, drop-drop, take_all, append-nil}
+use Rattle.std.proofs.lemmas.List.{drop-set, take_all, append-nil}
 use Rattle.std.proofs.lemmas.Fmt.{decimal_step, decimal_digit}
-use Rattle.ledger.specs.LineText.{last_digits, fraction, decimals}
+use Rattle.ledger.specs.LineText.{last_digits, decimals}
 
 -- a byte put before what is shown
 pub one_before : (xs : List ℕ) (f b : ℕ) → 0 < f → f ≤ length xs → drop (f - 1) (set xs (f - 1) b) ≡ b ∷ drop f xs

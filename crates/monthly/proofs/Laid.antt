@@ -1,7 +1,7 @@
-use Rattle.std.proofs.Common.{◌≡◌, ℕ, suc, ◌+◌, ◌-◌, ◌*◌, ◌<◌, ◌≤◌, List, [], ◌∷◌, ◌++◌, length, get_or, take, drop, set, sym, refl, ap, ◌∙◌, append_assoc, arith, length-append, length-drop, rules}
+use Rattle.std.proofs.Common.{◌≡◌, ℕ, ◌+◌, ◌-◌, ◌<◌, ◌≤◌, List, [], ◌∷◌, ◌++◌, length, get_or, take, drop, set, sym, ap, ◌∙◌, append_assoc, arith, length-append, length-drop}
 use borrow.Rule.Slice.PartMut.{put_mid}
 use Rattle.std.specs.List.{flat_map}
-use Rattle.std.proofs.lemmas.List.{places, take_more, flat_map_more, take_at, drop_at, drop-drop, drop_more, set_at, take-append-drop, length-take, drop-append-le}
+use Rattle.std.proofs.lemmas.List.{take_more, flat_map_more, take_at, drop_at, drop-drop, drop_more, set_at, take-append-drop, length-take, drop-append-le}
 
 -- a text at the front of s[a..e], which keeps what stood behind it there
 pub laid : (xs part t : List ℕ) (a e : ℕ) → a ≤ e → e ≤ length xs → length t ≤ e - a

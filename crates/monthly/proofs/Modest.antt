@@ -5,7 +5,7 @@ use Rattle.std.proofs.lemmas.Bool.{and_parts, leb-true}
 use Rattle.ledger.specs.declared.records.Outcome.{Outcome}
 use Rattle.ledger.specs.declared.records.Booked.{Booked}
 use Rattle.ledger.specs.Standing.{is_modest, are_modest}
-use Rattle.monthly.specs.Monthly.{Within, WithinIf, no_order, Kept}
+use Rattle.monthly.specs.Monthly.{WithinIf, no_order, Kept}
 
 modest : (r : Option Outcome) → is_modest r ≡ true → WithinIf r
 modest None e = tt

@@ -1,5 +1,5 @@
 -- The month from its days, its sums and its figures.
-use Rattle.std.proofs.Common.{◌≡◌, ℕ, Bool, true, false, cond, not, List, [], ◌∷◌, Some, None, Ok, Err, Option, sym, refl, ap, ◌∙◌, zero-add, arith}
+use Rattle.std.proofs.Common.{◌≡◌, ℕ, Bool, true, false, cond, not, List, Some, None, Ok, Err, refl, ap, ◌∙◌, zero-add, arith}
 use Rattle.ledger.specs.declared.fault.BookFault.TheVariants.{NoMonth}
 use Rattle.ledger.specs.declared.terms.Terms.{Terms}
 use Rattle.ledger.specs.declared.records.Booked.{Booked}

@@ -1,5 +1,5 @@
 -- A month from the parts of a book, and its sums.
-use Rattle.std.specs.Prelude.{◌≡◌, ℕ, ◌+◌, ◌*◌, ◌<◌, ◌≤◌, not, ◌&&◌, List, [], ◌∷◌, length, pos, Some, None, Ok, Err, Option, Result, nat_le, slice_index_or}
+use Rattle.std.specs.Prelude.{ℕ, ◌+◌, ◌*◌, ◌<◌, ◌≤◌, not, ◌&&◌, List, length, pos, Some, None, Ok, Err, Option, nat_le, slice_index_or}
 use Rattle.calendar.specs.Gregorian.{is_month, first_day, last_day}
 use Rattle.rulebooks.specs.Rounding.{rounded}
 use Rattle.ledger.specs.declared.fault.BookFault.TheVariants.{Number, NoMonth}

@@ -1,9 +1,8 @@
 -- What holds of two rulebooks joined.
-use Rattle.std.specs.Prelude.{◌≡◌, ℕ, ◌≤◌, Bool, true, false, ◌⊎◌, ℤ, is_some, Some, None, Option, Result, unsigned_abs, refl}
-use Rattle.std.proofs.Common.{arith, sym, ap, ◌∙◌, inl, inr}
-use Rattle.rulebooks.specs.declared.rule.RuleFault.{RuleFault}
-use Rattle.rulebooks.specs.Rules.{Rules, Known, baseline_limit, out_of_range, InRange, ruled, answered, Lawful}
-use Rattle.rulebooks.specs.Banks.{if_known, joined, KnowsBoth, SpeaksFor, BankLaws}
+use Rattle.std.specs.Prelude.{◌≡◌, ℕ, ◌≤◌, true, ◌⊎◌, ℤ, is_some, Some, None, Option, unsigned_abs, refl}
+use Rattle.std.proofs.Common.{arith, ap, ◌∙◌, inl, inr}
+use Rattle.rulebooks.specs.Rules.{Rules, baseline_limit, out_of_range, ruled, answered, Lawful}
+use Rattle.rulebooks.specs.Banks.{if_known, joined, BankLaws}
 
 if_some : {X : Type 0} (o : Option ℕ) (x y : X) → is_some o ≡ true → if_known o x y ≡ x
 if_some None x y h = absurd (let m : ◌≡◌ {A = ℕ} 0 1 = cc in omega arith)

@@ -1,11 +1,11 @@
 -- The sizes of the three rules' numbers, so that each is a lawful rulebook.
-use Rattle.std.specs.Prelude.{◌≡◌, ℕ, suc, ◌*◌, ◌<◌, ◌≤◌, Bool, true, false, cond, ℤ, pos, negsuc, ◌+ℤ◌, ◌-ℤ◌, ◌*ℤ◌, neg_ℤ, ◌≤ℤ◌, ◌<ℤ◌, Some, None, Option, ◌==◌, int_lt, nat_lt, unsigned_abs, refl}
-use Rattle.std.proofs.Common.{mul-le-mul, arith, sym, ap, subst, ◌∙◌}
+use Rattle.std.specs.Prelude.{◌≡◌, ℕ, ◌≤◌, Bool, true, false, cond, ℤ, pos, negsuc, ◌+ℤ◌, ◌-ℤ◌, ◌*ℤ◌, neg_ℤ, ◌<ℤ◌, Some, None, Option, ◌==◌, int_lt, nat_lt, unsigned_abs, refl}
+use Rattle.std.proofs.Common.{mul-le-mul, arith, sym}
 use Rattle.std.specs.Int.{int_min, int_max}
 use Rattle.std.proofs.lemmas.Int.{ints, clamps}
 use Rattle.std.proofs.lemmas.Bool.{cond_both, ltb-false}
-use Rattle.rulebooks.specs.Rounding.{Nearest, Rounded, rounded}
-use Rattle.rulebooks.specs.Rules.{Rules, s_limit, l_limit, c_limit, baseline_limit, InRange, Known, Lawful}
+use Rattle.rulebooks.specs.Rounding.{rounded}
+use Rattle.rulebooks.specs.Rules.{s_limit, l_limit, c_limit, baseline_limit, InRange, Lawful}
 use Rattle.rulebooks.specs.Options.{unadjusted_mean, adjustment, additive, bounded, ratio, lead_mean, single, additive_rules, ratio_rules, lead_mean_rules}
 use Rattle.rulebooks.specs.RoundedLaws.{rounds}
 

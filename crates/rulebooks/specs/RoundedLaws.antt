@@ -1,12 +1,12 @@
 -- The laws of rounding. Besides the proof of the code that computes it, only this file opens the rounding function.
-use Rattle.std.specs.Prelude.{◌≡◌, ℕ, suc, ◌+◌, ◌*◌, ◌/◌, ◌<◌, ◌≤◌, Bool, true, false, ◌||◌, ℤ, pos, negsuc, ◌+ℤ◌, ◌-ℤ◌, ◌*ℤ◌, ◌≤ℤ◌, ◌<ℤ◌, Some, int_lt, nat_lt, unsigned_abs, refl}
-use Rattle.std.proofs.Common.{div-mul-le_self, mul-le-mul_right, arith, sym, ap, subst, ◌∙◌}
+use Rattle.std.specs.Prelude.{◌≡◌, ℕ, ◌*◌, ◌<◌, ◌≤◌, false, ◌||◌, ℤ, pos, negsuc, ◌+ℤ◌, ◌*ℤ◌, ◌≤ℤ◌, ◌<ℤ◌, Some, int_lt, nat_lt, unsigned_abs}
+use Rattle.std.proofs.Common.{div-mul-le_self, mul-le-mul_right, arith, sym, ap, ◌∙◌}
 use Rattle.std.proofs.Math.Nat.{lt-div-mul-add}
 use Rattle.std.proofs.Math.IntN.{+ℤ_one, suc_ℤ-*ℤ}
 use Rattle.std.specs.Int.{int_div_euclid}
 use Rattle.std.proofs.lemmas.Int.{ints, by_lt_z}
-use Rattle.std.proofs.lemmas.Bool.{or_parts, or_from, ltb-false, le-ltb}
-use Rattle.rulebooks.specs.Rounding.{Nearest, Rounded, HalfOver, rounded, apart, Rounds, OneRounding, NoneNearer, TiesToGreater, Monotone, WholeStays, RoundingLaws, unroundable, Roundable, divided}
+use Rattle.std.proofs.lemmas.Bool.{or_parts, ltb-false, le-ltb}
+use Rattle.rulebooks.specs.Rounding.{Rounded, HalfOver, rounded, Rounds, OneRounding, NoneNearer, TiesToGreater, Monotone, WholeStays, RoundingLaws, unroundable, Roundable, divided}
 
 -- products with a natural number keep the order
 times_le : (a b : ℤ) (k : ℕ) → a ≤ℤ b → (a *ℤ pos k) ≤ℤ (b *ℤ pos k)

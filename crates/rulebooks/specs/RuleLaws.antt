@@ -1,10 +1,10 @@
 -- What follows of every rulebook from its meaning and its laws.
-use Rattle.std.specs.Prelude.{◌≡◌, ℕ, ◌≤◌, Bool, true, false, ◌||◌, ◌⊎◌, ℤ, is_some, Some, None, Ok, Err, Option, Result, nat_lt, unsigned_abs, refl}
-use Rattle.std.proofs.Common.{arith, sym, ap, ◌∙◌, inl, inr}
+use Rattle.std.specs.Prelude.{◌≡◌, ℕ, ◌≤◌, Bool, true, false, ◌||◌, ℤ, is_some, Some, None, Ok, Err, Option, nat_lt, unsigned_abs, refl}
+use Rattle.std.proofs.Common.{arith, sym, ap, ◌∙◌}
 use Rattle.std.specs.Option.{ok_or}
-use Rattle.std.proofs.lemmas.Bool.{or_parts, or_from, ltb-false, le-ltb}
+use Rattle.std.proofs.lemmas.Bool.{or_parts, ltb-false, le-ltb}
 use Rattle.rulebooks.specs.declared.rule.RuleFault.{RuleFault}
-use Rattle.rulebooks.specs.declared.rule.RuleFault.TheVariants.{OutOfRange, UnknownChoice, NoBaseline}
+use Rattle.rulebooks.specs.declared.rule.RuleFault.TheVariants.{NoBaseline}
 use Rattle.rulebooks.specs.Rules.{Rules, Known, s_limit, l_limit, c_limit, baseline_limit, out_of_range, InRange, ruled, answered, Lawful}
 
 pub in_range_from : (d : ℕ) (s l c : ℤ) → out_of_range d s l c ≡ false → InRange d s l c

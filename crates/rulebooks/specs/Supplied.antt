@@ -1,5 +1,5 @@
 -- The supplied rulebook, and what holds of its answers.
-use Rattle.std.specs.Prelude.{◌≡◌, ℕ, ◌≤◌, ℤ, ◌≤ℤ◌, Some, None, Ok, Err}
+use Rattle.std.specs.Prelude.{◌≡◌, ℕ, ◌≤◌, ℤ, ◌≤ℤ◌, Some, Ok}
 use Rattle.std.specs.Option.{ok_or}
 use Rattle.rulebooks.specs.declared.rule.RuleFault.TheVariants.{NoBaseline}
 use Rattle.rulebooks.specs.Rules.{Rules, Known, InRange, answered}

@@ -1,6 +1,6 @@
 -- What holds of the supplied rulebook's answers.
-use Rattle.std.specs.Prelude.{◌≡◌, ℕ, zero, suc, ◌≤◌, Bool, true, false, cond, ℤ, pos, negsuc, ◌+ℤ◌, ◌-ℤ◌, ◌*ℤ◌, neg_ℤ, ◌≤ℤ◌, ◌<ℤ◌, is_some, Some, None, Ok, Option, Result, ◌==◌, refl}
-use Rattle.std.proofs.Common.{arith, sym, ap, ◌∙◌}
+use Rattle.std.specs.Prelude.{◌≡◌, ℕ, ◌≤◌, Bool, true, false, cond, ℤ, pos, negsuc, ◌+ℤ◌, ◌-ℤ◌, ◌*ℤ◌, ◌≤ℤ◌, ◌<ℤ◌, is_some, Some, None, Ok, Result, ◌==◌, refl}
+use Rattle.std.proofs.Common.{arith, sym, ap}
 use Rattle.std.specs.Int.{int_min, int_max}
 use Rattle.std.specs.Option.{ok_or}
 use Rattle.std.proofs.lemmas.Int.{ints, clamps}
@@ -8,8 +8,8 @@ use Rattle.std.proofs.lemmas.Bool.{eqb-true}
 use Rattle.rulebooks.specs.declared.rule.RuleFault.{RuleFault}
 use Rattle.rulebooks.specs.declared.rule.RuleFault.TheVariants.{NoBaseline}
 use Rattle.rulebooks.specs.Rounding.{rounded}
-use Rattle.rulebooks.specs.Rules.{Rules, Known, InRange, answered, Lawful}
-use Rattle.rulebooks.specs.Options.{unadjusted_mean, adjustment, additive, bounded, ratio, lead_mean, additive_rules, ratio_rules, lead_mean_rules}
+use Rattle.rulebooks.specs.Rules.{answered, Lawful}
+use Rattle.rulebooks.specs.Options.{unadjusted_mean, adjustment, additive, bounded, lead_mean, additive_rules, ratio_rules, lead_mean_rules}
 use Rattle.rulebooks.specs.Banks.{if_known, joined}
 use Rattle.rulebooks.specs.Supplied.{supplied_rules, SuppliedChoices, MeanGuarantee, FollowsSums}
 use Rattle.rulebooks.specs.Figures.{Figures}

@@ -1,4 +1,4 @@
-use Rattle.std.specs.Prelude.{cond, ℤ, pos, Some, None, ◌==◌}
+use Rattle.std.specs.Prelude.{cond, pos, Some, None, ◌==◌}
 use Rattle.rulebooks.specs.Rules.{Rules}
 use Rattle.rulebooks.specs.Options.{single}
 

@@ -1,6 +1,6 @@
 -- The calls of a life one by one: each answer at its place, and the book so far.
-use Rattle.std.proofs.Common.{◌≡◌, ℕ, suc, ◌+◌, ◌<◌, ◌≤◌, List, [], ◌∷◌, ◌++◌, length, get_or, take, drop, set, sym, refl, ap, ◌∙◌, subst, arith}
-use Rattle.std.proofs.lemmas.List.{take_more, take_all, drop_more, drop_all, append_assoc, length-take-le, take-append-le}
+use Rattle.std.proofs.Common.{◌≡◌, ℕ, suc, ◌+◌, ◌<◌, ◌≤◌, List, [], ◌∷◌, ◌++◌, length, get_or, take, drop, set, sym, refl, ap, ◌∙◌, arith}
+use Rattle.std.proofs.lemmas.List.{take_more, take_all, drop_more, append_assoc, length-take-le, take-append-le}
 use Rattle.ledger.specs.declared.life.Call.{Call}
 use Rattle.ledger.specs.declared.life.Answer.{Answer}
 use Rattle.ledger.specs.Book.{Book}

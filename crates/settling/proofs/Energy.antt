@@ -1,5 +1,5 @@
 -- Energies fit.
-use Rattle.std.proofs.Common.{◌≡◌, ℕ, ◌+◌, ◌-◌, ◌*◌, ◌≤◌, min, Bool, true, cond, ltb, leb, ℤ, pos, negsuc, ◌≤ℤ◌, Some, None, Option, ap, ◌∙◌, mul-le-mul, arith}
+use Rattle.std.proofs.Common.{◌≡◌, ℕ, ◌-◌, ◌*◌, ◌≤◌, min, Bool, true, cond, ltb, leb, ℤ, pos, negsuc, ◌≤ℤ◌, Some, None, ap, ◌∙◌, mul-le-mul, arith}
 use Rattle.std.proofs.lemmas.Int.{ints}
 use Rattle.std.proofs.lemmas.Bool.{le-ltb, le-leb, and_from, cond_both}
 use Rattle.rulebooks.specs.Rounding.{rounded, divided}

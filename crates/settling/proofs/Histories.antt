@@ -1,5 +1,5 @@
 -- One resource settled by its history.
-use Rattle.std.proofs.Common.{◌≡◌, ℕ, zero, suc, ◌<◌, ◌≤◌, Bool, true, false, List, [], ◌∷◌, map, length, get_or, take, ℤ, ◌+ℤ◌, Some, Ok, Err, Option, Result, sym, refl, ap, ◌∙◌, subst, arith, w32, w64, to_z, of_z}
+use Rattle.std.proofs.Common.{◌≡◌, ℕ, zero, suc, ◌<◌, ◌≤◌, false, List, [], ◌∷◌, map, length, get_or, take, ℤ, ◌+ℤ◌, Some, Ok, Err, Option, sym, refl, ap, ◌∙◌, arith, w32, w64, to_z, of_z}
 use mathlib.Core.Path.{fun_ext}
 use Rattle.std.proofs.lemmas.List.{get_or-take}
 use Rattle.std.proofs.lemmas.Int.{ints}
@@ -11,7 +11,7 @@ use Rattle.ledger.specs.declared.records.Order.{Order}
 use Rattle.ledger.specs.declared.records.Resource.{Resource}
 use Rattle.settling.specs.declared.parts.Settled.{Settled}
 use Rattle.ledger.specs.Words.{Granted, ◌>>=◌, lead, ordered, total, total_of}
-use Rattle.ledger.specs.Settling.{Held, Part, reading_on, by_history, latest, needs}
+use Rattle.ledger.specs.Settling.{Held, reading_on, by_history, latest, needs}
 use Rattle.settling.specs.History.{Near, Kept, fits, summed, summed_in, lead_sum, quarter_by, by_sums}
 use Rattle.settling.specs.Evidence.{history_row, given, by_days}
 

@@ -1,12 +1,12 @@
 -- The parts of all resources, one further.
-use Rattle.std.proofs.Common.{◌≡◌, ℕ, zero, suc, ◌+◌, ◌-◌, ◌*◌, ◌<◌, ◌≤◌, Bool, true, false, cond, ◌||◌, List, [], ◌∷◌, ◌++◌, length, get_or, take, drop, ℤ, pos, ◌+ℤ◌, Ok, Err, Result, sym, refl, ap, ◌∙◌, subst, add-zero, arith}
-use Rattle.std.proofs.lemmas.List.{take_more, drop_more, append_assoc, append-nil, length-append, length-take-le, take-append-drop}
+use Rattle.std.proofs.Common.{◌≡◌, ℕ, zero, suc, ◌+◌, ◌<◌, ◌≤◌, Bool, true, false, ◌||◌, List, [], ◌∷◌, ◌++◌, length, get_or, take, drop, ℤ, pos, ◌+ℤ◌, Ok, Err, sym, refl, ap, ◌∙◌, subst, add-zero, arith}
+use Rattle.std.proofs.lemmas.List.{take_more, drop_more, append_assoc, append-nil, length-take-le, take-append-drop}
 use Rattle.ledger.specs.declared.fault.BookFault.{BookFault}
 use Rattle.ledger.specs.declared.records.Resource.{Resource}
 use Rattle.settling.specs.declared.parts.Settled.{Settled}
 use Rattle.ledger.specs.Words.{Granted, ◌>>=◌, each}
 use Rattle.ledger.specs.Settling.{Part, numbered_from, sum_of, any_estimated, evidence, evidence_row}
-use Rattle.settling.specs.Evidence.{settled_of, given}
+use Rattle.settling.specs.Evidence.{given}
 use Rattle.settling.specs.Sheets.{Along, Powered}
 use Rattle.settling.proofs.Totals.{total_push}
 

@@ -1,5 +1,5 @@
 -- One evidence row, word by word, and what settling one resource gives.
-use Rattle.std.specs.Prelude.{◌≡◌, ℕ, ◌+◌, ◌-◌, ◌*◌, ◌<◌, Bool, true, List, [], ◌∷◌, ◌++◌, map, length, get_or, replicate, ℤ, pos, Ok, Err, slice_index, slice_index_or}
+use Rattle.std.specs.Prelude.{◌≡◌, ℕ, ◌+◌, ◌-◌, ◌*◌, ◌<◌, true, List, [], ◌∷◌, ◌++◌, map, length, get_or, replicate, ℤ, pos, Ok, Err, slice_index, slice_index_or}
 use Rattle.ledger.specs.declared.records.Order.{Order}
 use Rattle.ledger.specs.declared.records.Resource.{Resource}
 use Rattle.settling.specs.declared.parts.Settled.{Settled}

@@ -1,4 +1,4 @@
-use Rattle.std.proofs.Common.{◌≡◌, sym, ap, ◌∙◌, subst}
+use Rattle.std.proofs.Common.{sym, ◌∙◌}
 use Rattle.ledger.proofs.Among.{busy_yes, busy_no, busy_none}
 use Rattle.ledger.proofs.days.is_busy.Goals as goal
 

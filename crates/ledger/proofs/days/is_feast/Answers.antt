@@ -1,4 +1,4 @@
-use Rattle.std.proofs.Common.{◌≡◌, take, sym, ap, ◌∙◌, subst, arith}
+use Rattle.std.proofs.Common.{sym, ◌∙◌}
 use Rattle.ledger.specs.Days.{feasts_of}
 use Rattle.ledger.proofs.Among.{among_yes, among_no, among_none}
 use Rattle.ledger.proofs.days.is_feast.Goals as goal

@@ -1,4 +1,4 @@
-use Rattle.std.proofs.Common.{◌≡◌, cond, length, is_ok, vec_items, sym, ap, ◌∙◌}
+use Rattle.std.proofs.Common.{cond, length, is_ok, vec_items, sym, ap, ◌∙◌}
 use Rattle.stores.specs.Making.{fit_answer}
 use Rattle.lifefile.specs.Making.{asked_words}
 use Rattle.lifefile.proofs.Memory.{made_as}

@@ -1,4 +1,4 @@
-use Rattle.std.proofs.Common.{◌≡◌, ℕ, ◌<◌, get_or, Some}
+use Rattle.std.proofs.Common.{◌≡◌, ℕ, ◌<◌, Some}
 use Rattle.metering.specs.Readings.{reading_in}
 use Rattle.metering.specs.Forming.{formed_at}
 use Rattle.metering.proofs.forming.form.Given as goal

@@ -1,4 +1,4 @@
-use Rattle.std.proofs.Common.{◌≡◌, ◌+◌, refl, ap, ◌∙◌, arith}
+use Rattle.std.proofs.Common.{refl, ap, arith}
 use Rattle.std.proofs.lemmas.List.{take_all}
 use Rattle.monthly.specs.Cells.{cell, cells, blank}
 use Rattle.monthly.proofs.Laid.{line_more, line_all, joined_step}

@@ -1,4 +1,4 @@
-use Rattle.std.proofs.Common.{◌≡◌, ◌+◌, ◌-◌, ◌≤◌, true, leb, length, Ok, sym, refl, ap, ◌∙◌, arith, le-leb}
+use Rattle.std.proofs.Common.{◌≡◌, ◌-◌, true, leb, length, Ok, sym, ap, ◌∙◌, arith, le-leb}
 use Rattle.std.proofs.lemmas.Bool.{cond-true}
 use Rattle.monthly.specs.Cells.{cells}
 use Rattle.monthly.proofs.Laid.{front}

@@ -1,4 +1,4 @@
-use Rattle.std.proofs.Common.{◌≡◌, ◌-◌, ◌*◌, ◌≤◌, cond}
+use Rattle.std.proofs.Common.{◌≡◌, ◌-◌, ◌*◌, ◌≤◌}
 use Rattle.ledger.specs.Words.{counting}
 use Rattle.ledger.specs.Book.{available}
 use Rattle.monthly.proofs.month.available.Given as goal

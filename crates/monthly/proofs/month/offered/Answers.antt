@@ -1,4 +1,4 @@
-use Rattle.std.proofs.Common.{◌≡◌, ℕ, ◌+◌, ◌-◌, true, false, cond, sym, ap, ◌∙◌, arith}
+use Rattle.std.proofs.Common.{◌≡◌, ℕ, ◌+◌, true, false, cond, sym, ap, ◌∙◌, arith}
 use Rattle.ledger.specs.Words.{tally}
 use Rattle.ledger.specs.Days.{in_kinds, is_declared}
 use Rattle.ledger.specs.Book.{window_of}

@@ -1,4 +1,4 @@
-use Rattle.std.proofs.Common.{◌≡◌, ◌+◌, true, false, get_or, drop, sym, refl, ap, ◌∙◌, subst, arith}
+use Rattle.std.proofs.Common.{◌≡◌, ◌+◌, false, get_or, drop, sym, refl, ap, ◌∙◌, subst, arith}
 use Rattle.monthly.specs.declared.month.Sums.{Sums}
 use Rattle.ledger.specs.Book.{in_month, outcomes_in}
 use Rattle.monthly.specs.Monthly.{sums_with, Within, WithinIf, no_order}

@@ -1,9 +1,8 @@
-use Rattle.std.proofs.Common.{◌≡◌, ◌≤◌, true, false, ℤ, pos, ◌-ℤ◌, ◌*ℤ◌, neg_ℤ, nat_abs, ◌<ℤ◌, sym, refl, ap, ◌∙◌, arith, w64, SFits}
-use lib.Signed.{lt_z}
+use Rattle.std.proofs.Common.{◌≡◌, ◌≤◌, ℤ, pos, ◌-ℤ◌, ◌*ℤ◌, neg_ℤ, nat_abs, ap, ◌∙◌, arith, w64, SFits}
 use Rattle.std.proofs.lemmas.Int.{ints, to_z-of_z}
 use Rattle.rulebooks.specs.Rounding.{Roundable, rounded}
 use Rattle.rulebooks.specs.Rules.{s_limit, c_limit}
-use Rattle.rulebooks.specs.Options.{ratio, bounded}
+use Rattle.rulebooks.specs.Options.{bounded}
 use Rattle.rulebooks.specs.OptionLaws.{product_size}
 use Rattle.rulebooks.proofs.options.ratio_baseline.Goals as goal
 

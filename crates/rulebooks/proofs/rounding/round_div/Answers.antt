@@ -1,6 +1,6 @@
-use Rattle.std.proofs.Common.{◌≡◌, true, false, cond, ℤ, Some, None, sym, ap, ◌∙◌, w64, SFits}
+use Rattle.std.proofs.Common.{cond, Some, None, sym, ap, ◌∙◌, w64, SFits}
 use Rattle.std.proofs.lemmas.Int.{to_z-of_z}
-use Rattle.rulebooks.specs.Rounding.{unroundable, rounded, divided}
+use Rattle.rulebooks.specs.Rounding.{rounded}
 use Rattle.rulebooks.specs.RoundedLaws.{rounding_laws, roundable_from, divided_is}
 use Rattle.rulebooks.proofs.rounding.round_div.Goals as goal
 

@@ -1,4 +1,4 @@
-use Rattle.std.proofs.Common.{◌≡◌, leb, List, ◌++◌, length, drop, Some, None, sym, ap, ◌∙◌, arith}
+use Rattle.std.proofs.Common.{leb, ◌++◌, length, drop, Some, None, sym, ap, ◌∙◌, arith}
 use Rattle.std.proofs.lemmas.Bool.{cond-true, cond-false, le-leb, lt-leb}
 use Rattle.ledger.specs.declared.fault.BookFault.TheVariants.{ShortMemory}
 use Rattle.ledger.specs.Book.{Book, fresh}

@@ -1,4 +1,4 @@
-use Rattle.std.proofs.Common.{refl, arith}
+use Rattle.std.proofs.Common.{arith}
 use Rattle.settlement.specs.Meant.{meaning}
 use Rattle.settlement.proofs.Turns.{turn, all_turns}
 use Rattle.settlement.proofs.live.run_calls.Goals as goal

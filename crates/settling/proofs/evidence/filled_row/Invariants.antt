@@ -1,4 +1,4 @@
-use Rattle.std.proofs.Common.{◌≡◌, ℕ, ◌+◌, ◌<◌, length, get_or, ℤ, pos}
+use Rattle.std.proofs.Common.{◌≡◌, ℕ, ◌+◌, ◌<◌, length, get_or, pos}
 use Rattle.settling.proofs.evidence.filled_row.Given as goal
 
 abbrev pub invariant-loop-k : goal.invariant-loop-k

@@ -1,4 +1,4 @@
-use Rattle.std.proofs.Common.{◌≡◌, ℕ, ◌*◌, ◌≤◌, ℤ, pos, Some, None, Option, unwrap_or, sym, refl, ap, ◌∙◌, arith, w64, SFits, to_z, of_z, rules}
+use Rattle.std.proofs.Common.{◌≡◌, ℕ, ◌*◌, ◌≤◌, ℤ, pos, Some, None, Option, unwrap_or, ap, ◌∙◌, arith, w64, SFits, to_z, rules}
 use Rattle.std.proofs.lemmas.Int.{ints, to_z-of_z}
 use Rattle.rulebooks.specs.Rounding.{rounded, divided}
 use Rattle.ledger.specs.Settling.{positive}

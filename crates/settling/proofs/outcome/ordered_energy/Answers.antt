@@ -1,4 +1,4 @@
-use Rattle.std.proofs.Common.{ℕ, ◌-◌, refl, arith}
+use Rattle.std.proofs.Common.{◌-◌, refl, arith}
 use Rattle.settling.proofs.Energy.{energy_bound}
 use Rattle.settling.proofs.outcome.ordered_energy.Goals as goal
 

@@ -1,4 +1,4 @@
-use Rattle.std.proofs.Common.{◌≡◌, ℕ, Option, unwrap_or, sym, ap, ◌∙◌}
+use Rattle.std.proofs.Common.{ℕ, Option, unwrap_or, sym, ap}
 use Rattle.settling.proofs.parts.needs.Goals as goal
 
 pub returns-in-Some : goal.returns-in-Some

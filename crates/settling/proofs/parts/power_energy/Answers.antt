@@ -1,4 +1,4 @@
-use Rattle.std.proofs.Common.{ℕ, ◌-◌, refl, arith}
+use Rattle.std.proofs.Common.{◌-◌, refl, arith}
 use Rattle.settling.proofs.Energy.{power_bound}
 use Rattle.settling.proofs.parts.power_energy.Goals as goal
 

@@ -1,4 +1,4 @@
-use Rattle.std.proofs.Common.{◌≡◌, sym, ◌∙◌, arith}
+use Rattle.std.proofs.Common.{sym, ◌∙◌, arith}
 use Rattle.settling.proofs.Fitness.{fit}
 use Rattle.settling.proofs.parts.settle_order.Goals as goal
 

@@ -1,7 +1,7 @@
-use Rattle.std.proofs.Common.{◌≡◌, ℕ, ◌+◌, ◌-◌, ◌*◌, Bool, List, ◌++◌, length, take, drop, ℤ, ◌+ℤ◌, Ok, Err, Result, sym, refl, ap, ◌∙◌, subst, arith, rules}
+use Rattle.std.proofs.Common.{◌≡◌, ℕ, ◌+◌, ◌*◌, List, ◌++◌, length, take, drop, ℤ, Ok, Err, sym, ap, ◌∙◌, arith, rules}
 use Rattle.std.proofs.lemmas.List.{take_all, length-take-le}
 use Rattle.std.proofs.lemmas.Result.{err_from_is_err_and}
-use Rattle.std.proofs.lemmas.Int.{ints, to_z-of_z}
+use Rattle.std.proofs.lemmas.Int.{ints}
 use Rattle.ledger.specs.declared.fault.BookFault.{BookFault}
 use Rattle.ledger.specs.declared.records.Resource.{Resource}
 use Rattle.ledger.specs.Words.{Granted, each}
@@ -9,8 +9,7 @@ use Rattle.ledger.specs.Settling.{Part, part, numbered_from, evidence, sum_of}
 use Rattle.ledger.specs.Book.{orders_in, busy_on}
 use Rattle.ledger.specs.declared.records.Outcome.{Outcome}
 use Rattle.settling.specs.Outcomes.{outcome_by}
-use Rattle.settling.specs.History.{Near}
-use Rattle.settling.specs.Sheets.{Along, settled_at, sheet_of}
+use Rattle.settling.specs.Sheets.{settled_at, sheet_of}
 use Rattle.settling.proofs.Energy.{outcome_modest}
 use Rattle.settling.proofs.SheetRows.{powered_at, along_more, along_break, gathered}
 use Rattle.settling.proofs.parts.settle_parts.Goals as goal

@@ -1,8 +1,8 @@
-use Rattle.std.proofs.Common.{◌≡◌, ◌+◌, ◌<◌, true, length, drop, ℤ, pos, ◌+ℤ◌, neg_ℤ, ◌≤ℤ◌, sym, ap, ◌∙◌, arith}
+use Rattle.std.proofs.Common.{◌≡◌, true, length, drop, ◌+ℤ◌, sym, ap, ◌∙◌, arith}
 use Rattle.std.proofs.lemmas.Int.{ints}
 use Rattle.std.proofs.lemmas.List.{at_drop_all}
 use Rattle.metering.specs.Readings.{within, reading_in}
-use Rattle.metering.specs.Summary.{measured_part, total_of}
+use Rattle.metering.specs.Summary.{total_of}
 use Rattle.metering.proofs.Peaks.{part_to, part_from, total_more}
 use Rattle.metering.proofs.curve.Curve.total.Goals as goal
 

@@ -1,4 +1,4 @@
-use Rattle.std.proofs.Common.{◌≡◌, ◌+◌, ◌/◌, ap, ◌∙◌, arith}
+use Rattle.std.proofs.Common.{◌/◌, ap, ◌∙◌, arith}
 use Rattle.monthly.proofs.Digits.{place_more, place_step}
 use Rattle.monthly.proofs.decimals.Back.put_places.Goals as goal
 

@@ -1,4 +1,4 @@
-use Rattle.std.proofs.Common.{◌≡◌, ℕ, List, length, vec_items, sym, ap, ◌∙◌}
+use Rattle.std.proofs.Common.{ℕ, List, length, vec_items, sym, ap, ◌∙◌}
 use Rattle.ledger.specs.declared.life.Call.{Call}
 use Rattle.ledger.specs.Book.{may_register, registered}
 use Rattle.ledger.specs.Run.{step}

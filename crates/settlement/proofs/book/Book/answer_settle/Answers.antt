@@ -1,4 +1,4 @@
-use Rattle.std.proofs.Common.{◌≡◌, sym, refl, ap, ◌∙◌}
+use Rattle.std.proofs.Common.{◌∙◌}
 use Rattle.ledger.specs.Book.{settlement}
 use Rattle.settlement.specs.Meant.{meaning}
 use Rattle.settlement.proofs.Steps.{settle_answer, settle_book}

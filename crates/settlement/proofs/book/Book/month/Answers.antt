@@ -1,12 +1,12 @@
-use Rattle.std.proofs.Common.{◌≡◌, Bool, true, not, ◌&&◌, leb, List, length, sym, ap, ◌∙◌}
+use Rattle.std.proofs.Common.{Bool, not, leb, List, length, ap, ◌∙◌}
 use Rattle.std.proofs.lemmas.Bool.{and_from, le-leb}
 use Rattle.ledger.specs.declared.fault.BookFault.TheVariants.{Number}
 use Rattle.ledger.specs.declared.records.Booked.{Booked}
 use Rattle.ledger.specs.declared.records.Declaration.{Declaration}
 use Rattle.ledger.specs.Words.{◌>>=◌, unless}
-use Rattle.ledger.specs.Standing.{are_modest, are_standing}
-use Rattle.monthly.specs.Monthly.{month_from, month_in}
-use Rattle.settlement.specs.Tables.{orders_held, declarations_held}
+use Rattle.ledger.specs.Standing.{are_standing}
+use Rattle.monthly.specs.Monthly.{month_from}
+use Rattle.settlement.specs.Tables.{orders_held}
 use Rattle.settlement.proofs.Standing.{all_modest}
 use Rattle.settlement.proofs.book.Book.month.Goals as goal
 
