@@ -3,12 +3,11 @@ use Rattle.std.proofs.Common.{◌≡◌, ℕ, zero, suc, ◌+◌, ◌<◌, ◌�
 use Rattle.std.proofs.lemmas.List.{take_more_set, length-take-le}
 use Rattle.std.proofs.lemmas.Bool.{cond-true, lt-ltb}
 use Rattle.ledger.specs.declared.fault.BookFault.TheVariants.{NoOrder}
-use Rattle.ledger.specs.declared.records.Order.{Order}
 use Rattle.ledger.specs.declared.records.Booked.{Booked}
 use Rattle.ledger.specs.declared.records.Outcome.{Outcome}
-use Rattle.ledger.specs.Words.{Granted, ◌>>=◌}
-use Rattle.ledger.specs.Book.{numbered, unsettled, recorded}
-use Rattle.settlement.specs.Tables.{pushed, unsettled_in}
+use Rattle.ledger.specs.Words.{Granted}
+use Rattle.ledger.specs.Book.{numbered, recorded}
+use Rattle.settlement.specs.Tables.{pushed}
 
 pub held_more : {A : Type 0} (xs : List A) (n m : ℕ) (x : A) → n < m → length xs ≡ m → take (n + 1) (set xs n x) ≡ pushed m (take n xs) x
 held_more xs n m x h e =
@@ -38,9 +37,3 @@ recorded_past bs zero k x h = refl
 recorded_past [] (suc n) k x h = refl
 recorded_past (b ∷ bs) (suc n) zero x h = let z : ◌≡◌ {A = ℕ} 0 1 = omega arith in cc
 recorded_past (b ∷ bs) (suc n) (suc k) x h = ap (λ t. b ∷ t) (recorded_past bs n k x (omega arith))
-
-pub unsettled_there : (bs : List Booked) (n i : ℕ) (d : Booked) → i < n → i < length bs → unsettled (get_or bs i d) (get_or bs i d).result ≡ unsettled_in (take n bs) i
-unsettled_there bs n i d h l = ap (λ (m : Granted Booked). m >>= (λ a. unsettled a a.result)) (numbered_there bs n i d h l)
-
-pub unsettled_past : (bs : List Booked) (n i : ℕ) → n ≤ i → ◌≡◌ {A = Granted Order} (Err NoOrder) (unsettled_in (take n bs) i)
-unsettled_past bs n i h = ap (λ (m : Granted Booked). m >>= (λ a. unsettled a a.result)) (numbered_past bs n i h)

@@ -1,6 +1,5 @@
 -- What stands of orders and resources: one more, one recorded, one looked up, all of them.
-use Rattle.std.proofs.Common.{◌≡◌, ℕ, zero, suc, ◌<◌, ◌≤◌, true, ◌&&◌, ltb, leb, List, [], ◌∷◌, ◌++◌, length, get_or, take, Some, None, refl, ap, subst, arith, length-take}
-use Rattle.std.proofs.lemmas.List.{get_or-take}
+use Rattle.std.proofs.Common.{◌≡◌, ℕ, zero, suc, ◌≤◌, true, ◌&&◌, ltb, leb, List, [], ◌∷◌, ◌++◌, length, Some, None, Ok, refl, ap, subst, arith}
 use Rattle.std.proofs.lemmas.Bool.{and_parts, and_from, leb-true, le-leb, cond_both}
 use Rattle.ledger.specs.declared.terms.Terms.{Terms}
 use Rattle.ledger.specs.declared.records.Order.{Order}
@@ -8,7 +7,7 @@ use Rattle.ledger.specs.declared.records.Outcome.{Outcome}
 use Rattle.ledger.specs.declared.records.Booked.{Booked}
 use Rattle.ledger.specs.declared.records.Resource.{Resource}
 use Rattle.ledger.specs.Days.{in_window, in_kinds, are_quarters}
-use Rattle.ledger.specs.Book.{recorded, is_direction, order_fits}
+use Rattle.ledger.specs.Book.{numbered, recorded, is_direction, order_fits}
 use Rattle.ledger.specs.Standing.{is_placed, is_modest, are_modest, are_standing, are_powered}
 use Rattle.settlement.specs.Tables.{pushed}
 
@@ -49,20 +48,16 @@ standing_recorded (a ∷ bs) (suc k) x e w =
     let h = and_parts (is_placed a.order && is_modest a.result) (are_standing bs) e in
     and_from (is_placed a.order && is_modest a.result) _ h.0 (standing_recorded bs k x h.1 w)
 
-placed_at : (bs : List Booked) (k : ℕ) (d : Booked) → are_standing bs ≡ true → k < length bs → is_placed (get_or bs k d).order ≡ true
-placed_at [] k d e h = absurd (omega (arith, h))
-placed_at (a ∷ bs) zero d e h =
-    let g = and_parts (is_placed a.order && is_modest a.result) (are_standing bs) e in
-    (and_parts (is_placed a.order) (is_modest a.result) g.0).0
-placed_at (a ∷ bs) (suc k) d e h =
-    let g = and_parts (is_placed a.order && is_modest a.result) (are_standing bs) e in
-    placed_at bs k d g.1 (omega arith)
-
--- at a place of a table whose front stands
-pub placed_in : (bs : List Booked) (n k : ℕ) (d : Booked) → are_standing (take n bs) ≡ true → k < n → k < length bs → is_placed (get_or bs k d).order ≡ true
-placed_in bs n k d e h l =
-    let m : k < length (take n bs) = simp length-take (omega arith) in
-    subst (λ (b : Booked). is_placed b.order ≡ true) (get_or-take n bs k d h) (placed_at (take n bs) k d e m)
+-- the order of a number
+pub placed_numbered : (bs : List Booked) (k : ℕ) (a : Booked) → are_standing bs ≡ true → numbered bs k ≡ Ok a → is_placed a.order ≡ true
+placed_numbered [] k a e h = let z : ◌≡◌ {A = ℕ} 0 1 = cc in absurd (omega (arith, z))
+placed_numbered (b ∷ bs) zero a e h =
+    let g = and_parts (is_placed b.order && is_modest b.result) (are_standing bs) e in
+    let i : b ≡ a = cc in
+    subst (λ (x : Booked). is_placed x.order ≡ true) i (and_parts (is_placed b.order) (is_modest b.result) g.0).0
+placed_numbered (b ∷ bs) (suc k) a e h =
+    let g = and_parts (is_placed b.order && is_modest b.result) (are_standing bs) e in
+    placed_numbered bs k a g.1 h
 
 pub all_modest : (bs : List Booked) → are_standing bs ≡ true → are_modest bs ≡ true
 all_modest [] e = refl

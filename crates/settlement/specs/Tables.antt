@@ -1,5 +1,5 @@
 -- What a table holds: the first of its places.
-use Rattle.std.specs.Prelude.{◌≡◌, ℕ, ◌≤◌, cond, List, [], ◌∷◌, ◌++◌, length, take, nat_lt}
+use Rattle.std.specs.Prelude.{ℕ, cond, List, [], ◌∷◌, ◌++◌, length, take, nat_lt}
 use Rattle.ledger.specs.declared.records.Order.{Order}
 use Rattle.ledger.specs.declared.records.Booked.{Booked}
 use Rattle.ledger.specs.declared.records.Resource.{Resource}
@@ -9,11 +9,6 @@ use Rattle.ledger.specs.Book.{numbered, unsettled}
 use Rattle.settlement.specs.declared.tables.OrderTable.{OrderTable}
 use Rattle.settlement.specs.declared.tables.ResourceTable.{ResourceTable}
 use Rattle.settlement.specs.declared.tables.DeclarationTable.{DeclarationTable}
-
--- the 128 places of the order table, of which the first `count` are taken
-pub record Roomy (t : OrderTable) : Type 0 where
-  pub places : length t.orders ≡ 128
-  pub room : t.count ≤ 128
 
 abbrev pub orders_held : OrderTable → List Booked
 orders_held t = take t.count t.orders

@@ -1,6 +1,6 @@
 // The book: terms, a store of curves and a rulebook, with the tables of resources, orders and declarations.
-ghost use Rattle.std.specs.Prelude.{◌≡◌, ◌≤◌, true, length, take};
-ghost use Rattle.ledger.specs.Standing.{are_standing};
+ghost use Rattle.std.specs.Prelude.{◌≡◌, true, take};
+ghost use Rattle.ledger.specs.Standing.{are_powered, are_standing};
 
 use crate::tables::{DeclarationTable, OrderTable, ResourceTable};
 use ledger::terms::Terms;
@@ -12,7 +12,7 @@ mod questions;
 mod registering;
 mod settlement;
 
-// Its orders stand: each has its lead quarters on its own day, and a result, if any, of a bounded energy.
+// Its resources have at most 4,000 kW each. Its orders stand: each has its lead quarters on its own day, and a result, if any, of a bounded energy.
 #[derive(Drop)]
 pub struct Book<S: Drop, R: Drop> {
     terms: Terms,
@@ -21,7 +21,6 @@ pub struct Book<S: Drop, R: Drop> {
     resources: ResourceTable,
     orders: OrderTable,
     declarations: DeclarationTable,
-    ghost places: { length orders.orders ≡ 128 },
-    ghost room: { orders.count ≤ 128 },
+    ghost powered: { are_powered (take resources.count resources.resources) ≡ true },
     ghost standing: { are_standing (take orders.count orders.orders) ≡ true },
 }

@@ -4,3 +4,5 @@
 pub mod book;
 pub mod live;
 mod tables;
+
+pub use ledger::{fault, laws, life, records, terms};

@@ -12,7 +12,7 @@ use Rattle.ledger.specs.declared.records.Resource.{Resource}
 use Rattle.settling.specs.declared.parts.Settled.{Settled}
 use Rattle.ledger.specs.Words.{Granted, ◌>>=◌, lead, ordered, total, total_of}
 use Rattle.ledger.specs.Settling.{Held, reading_on, by_history, latest, needs}
-use Rattle.settling.specs.History.{Near, Kept, fits, summed, summed_in, lead_sum, quarter_by, by_sums}
+use Rattle.settling.specs.History.{Near, Kept, fits, summed, summed_in, lead_summed, lead_sum, quarter_by, quarter_with, by_sums}
 use Rattle.settling.specs.Evidence.{history_row, given, by_days}
 
 pub narrowed : (z : ℤ) → Near 120000000 z → to_z w32 (of_z w32 (to_z w64 (of_z w64 z))) ≡ z
@@ -26,12 +26,12 @@ given_is days now l (Ok a) = refl
 given_is days now l (Err e) = refl
 
 pub history_is : (R : Rules) (sums : ℕ → ℤ) (o : Order) (r : ℕ) (x : Resource) (c : Curve) (days : List ℕ) (l now : ℤ) (m : Granted ℤ)
-    → l ≡ total sums (lead o) → now ≡ lead_sum o c → m ≡ total_of (quarter_by R sums o r x c l now) (ordered o)
+    → l ≡ total sums (lead o) → now ≡ lead_sum o c → m ≡ total_of (quarter_with R sums o r x c l now) (ordered o)
     → given (by_sums R sums o r x c days) ≡ (m >>= shown days now l)
 history_is R sums o r x c days l now m el en em =
-    given_is days (lead_sum o c) (total sums (lead o)) (total_of (quarter_by R sums o r x c (total sums (lead o)) (lead_sum o c)) (ordered o))
-    ∙ (ap (λ (z : ℤ). total_of (quarter_by R sums o r x c z (lead_sum o c)) (ordered o) >>= shown days (lead_sum o c) z) (sym el)
-    ∙ (ap (λ (z : ℤ). total_of (quarter_by R sums o r x c l z) (ordered o) >>= shown days z l) (sym en)
+    given_is days (lead_sum o c) (total sums (lead o)) (total_of (quarter_with R sums o r x c (total sums (lead o)) (lead_sum o c)) (ordered o))
+    ∙ (ap (λ (z : ℤ). total_of (quarter_with R sums o r x c z (lead_sum o c)) (ordered o) >>= shown days (lead_sum o c) z) (sym el)
+    ∙ (ap (λ (z : ℤ). total_of (quarter_with R sums o r x c l z) (ordered o) >>= shown days z l) (sym en)
     ∙ ap (λ (v : Granted ℤ). v >>= shown days now l) (sym em)))
 
 total_map : {A B : Type 0} (f : B → ℤ) (g : A → B) (xs : List A) → total f (map g xs) ≡ total (λ x. f (g x)) xs
@@ -43,6 +43,14 @@ sums_kept : (held : Held) (days : List ℕ) (cs : List Curve) → Kept held days
 sums_kept held days cs e q =
     let f : Option Curve → ℤ = λ m. reading_on m q in
     sym (total_map f Some cs) ∙ (ap (total f) (sym e) ∙ total_map f held days)
+
+-- so is one quarter, and so are the lead quarters
+pub quarter_kept : (R : Rules) (held : Held) (o : Order) (r : ℕ) (x : Resource) (days : List ℕ) (cs : List Curve) (c : Curve) (l now : ℤ) (q : ℕ)
+    → Kept held days cs → quarter_with R (summed_in cs) o r x c l now q ≡ quarter_by R held o r x days c l now q
+quarter_kept R held o r x days cs c l now q e = ap (λ (sums : ℕ → ℤ). quarter_with R sums o r x c l now q) (fun_ext (sums_kept held days cs e))
+
+pub lead_kept : (held : Held) (o : Order) (days : List ℕ) (cs : List Curve) → Kept held days cs → total (summed_in cs) (lead o) ≡ lead_summed held o days
+lead_kept held o days cs e = ap (λ (sums : ℕ → ℤ). total sums (lead o)) (fun_ext (sums_kept held days cs e))
 
 -- by the curves of the n days found
 pub found_is : (t : Terms) (R : Rules) (held : Held) (bs : List Booked) (o : Order) (r : ℕ) (x : Resource) (c : Curve) (days : List ℕ) (cs : List Curve) (n : ℕ)

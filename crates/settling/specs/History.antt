@@ -54,7 +54,7 @@ abbrev pub curves_of : Days → List Curve
 curves_of x = take x.count x.curves
 
 abbrev pub days_in : Result Days BookFault → Granted (List ℕ)
-days_in (Ok x) = Ok (days_of x)
+days_in (Ok x) = Ok (take x.count x.at)
 days_in (Err e) = Err e
 
 -- what a reading that may be missing counts
@@ -70,18 +70,26 @@ summed held days q = total (λ d. reading_on (held d) q) days
 abbrev pub summed_in : List Curve → ℕ → ℤ
 summed_in cs q = total (λ c. worth (at c q)) cs
 
+abbrev pub lead_summed : Held → Order → List ℕ → ℤ
+lead_summed held o days = total (summed held days) (lead o)
+
 abbrev pub lead_sum : Order → Curve → ℤ
 lead_sum o c = total (λ q. worth (at c q)) (lead o)
 
--- one quarter, by the sums over the history days, and the lead sums l and now
-abbrev pub quarter_by : Rules → (ℕ → ℤ) → Order → ℕ → Resource → Curve → ℤ → ℤ → ℕ → Granted ℤ
-quarter_by R sums o r x c l now q =
+-- one quarter, by the lead sums l and now
+abbrev pub quarter_by : Rules → Held → Order → ℕ → Resource → List ℕ → Curve → ℤ → ℤ → ℕ → Granted ℤ
+quarter_by R held o r x days c l now q =
+    ruled_at r q (answered R x.choice (direction_number o.direction) (summed held days q) l now) >>= (λ b. Ok (toward o.direction (worth (at c q) -ℤ b)))
+
+-- the same, where only the sums over the history days are known
+abbrev pub quarter_with : Rules → (ℕ → ℤ) → Order → ℕ → Resource → Curve → ℤ → ℤ → ℕ → Granted ℤ
+quarter_with R sums o r x c l now q =
     ruled_at r q (answered R x.choice (direction_number o.direction) (sums q) l now) >>= (λ b. Ok (toward o.direction (worth (at c q) -ℤ b)))
 
 -- a resource settled by its history, where only the sums over its days are known
 abbrev pub by_sums : Rules → (ℕ → ℤ) → Order → ℕ → Resource → Curve → List ℕ → Granted Part
 by_sums R sums o r x c days =
-    total_of (quarter_by R sums o r x c (total sums (lead o)) (lead_sum o c)) (ordered o) >>= (λ a.
+    total_of (quarter_with R sums o r x c (total sums (lead o)) (lead_sum o c)) (ordered o) >>= (λ a.
     Ok (record { days = days; lead_then = total sums (lead o); lead_now = lead_sum o c; estimated = false; amount = a }))
 
 -- at most n, either way

@@ -42,7 +42,7 @@ fn is_measured_in(curve: &Curve, from: u32, to: u32) -> bool
 }
 
 // No quarter of the order, nor of the lead before it, is estimated.
-fn is_clean(curve: &Curve, order: Order) -> bool
+pub(crate) fn is_clean(curve: &Curve, order: Order) -> bool
     requires { Placed order }
     ensures { result ≡ measured_in curve.now (lead order ++ ordered order) }
 {

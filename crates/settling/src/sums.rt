@@ -2,7 +2,7 @@
 ghost use Rattle.std.specs.Prelude.{◌≡◌, ℕ, ◌-◌, ◌<◌, ◌≤◌, length, ℤ};
 ghost use Rattle.ledger.specs.Words.{at as quarter_of, worth, toward as toward_of, lead, ordered, total, total_of};
 ghost use Rattle.ledger.specs.Settling.{direction_number};
-ghost use Rattle.settling.specs.History.{Placed, Near, NearOf, worth_of, summed_in, lead_sum, quarter_by};
+ghost use Rattle.settling.specs.History.{Placed, Near, NearOf, worth_of, summed_in, lead_sum, quarter_with};
 
 use ledger::fault::BookFault;
 use ledger::records::{Direction, Order, Resource};
@@ -103,7 +103,7 @@ fn quarter_of<R: Rulebook>(
 ) -> Result<i64, BookFault>
     requires few { length curves.now ≤ 15 }
     requires place { quarter < 96 }
-    ensures value { result ≡ quarter_by (R.Rulebook.rules rules.now) (summed_in curves.now) order number resource curve.now l c quarter }
+    ensures value { result ≡ quarter_with (R.Rulebook.rules rules.now) (summed_in curves.now) order number resource curve.now l c quarter }
     ensures within { NearOf 11000000 result }
 {
     match rules.baseline(
@@ -135,7 +135,7 @@ pub(crate) fn contribution<R: Rulebook>(
 ) -> Result<i64, BookFault>
     requires few { length curves.now ≤ 15 }
     requires placed { Placed order }
-    ensures value { result ≡ total_of (quarter_by (R.Rulebook.rules rules.now) (summed_in curves.now) order number resource curve.now l c) (ordered order) }
+    ensures value { result ≡ total_of (quarter_with (R.Rulebook.rules rules.now) (summed_in curves.now) order number resource curve.now l c) (ordered order) }
     ensures within { NearOf 1056000000 result }
 {
     let mut sum = 0i64;

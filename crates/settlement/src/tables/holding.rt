@@ -1,8 +1,8 @@
 // Making a table, adding to it, and reading what it holds.
 ghost use Rattle.std.specs.Prelude.{◌≡◌, ◌≤◌, true, [], length, IfOk};
-ghost use Rattle.ledger.specs.Book.{recorded};
-ghost use Rattle.ledger.specs.Standing.{is_placed, are_standing, are_powered};
-ghost use Rattle.settlement.specs.Tables.{Roomy, orders_held, resources_held, declarations_held, pushed, unsettled_in};
+ghost use Rattle.ledger.specs.Book.{numbered, recorded};
+ghost use Rattle.ledger.specs.Standing.{is_placed, are_standing};
+ghost use Rattle.settlement.specs.Tables.{orders_held, resources_held, declarations_held, pushed, unsettled_in};
 
 use crate::tables::{DeclarationTable, OrderTable, ResourceTable};
 use ledger::fault::BookFault;
@@ -10,8 +10,7 @@ use ledger::records::{Booked, Declaration, Direction, Order, Outcome, Resource};
 
 impl OrderTable {
     pub(crate) fn new() -> OrderTable
-        ensures held { orders_held result ≡ [] }
-        ensures room { Roomy result }
+        ensures { orders_held result ≡ [] }
     {
         let order = Order {
             day: 0,
@@ -30,24 +29,29 @@ impl OrderTable {
     }
 
     pub(crate) fn as_slice(&self) -> &[Booked]
-        requires { Roomy self.now }
         ensures held { result.now ≡ orders_held self.now }
         ensures room { length result.now ≤ 128 }
     {
         &self.orders[..self.count]
     }
 
+    pub(crate) fn get(&self, number: usize) -> Result<Booked, BookFault>
+        ensures { result ≡ numbered (orders_held self.now) number }
+    {
+        if number < self.count {
+            Ok(self.orders[number])
+        } else {
+            Err(BookFault::NoOrder)
+        }
+    }
+
     // The order of a number, still to be settled.
     pub(crate) fn to_settle(&self, number: usize) -> Result<Order, BookFault>
-        requires room { Roomy self.now }
-        requires standing { are_standing (orders_held self.now) ≡ true }
+        requires { are_standing (orders_held self.now) ≡ true }
         ensures order { result ≡ unsettled_in (orders_held self.now) number }
         ensures placed { IfOk result (λ o. is_placed o ≡ true) }
     {
-        if number >= self.count {
-            return Err(BookFault::NoOrder);
-        }
-        let booked = self.orders[number];
+        let booked = self.get(number)?;
         match booked.result {
             Some(_) => Err(BookFault::Settled),
             None => Ok(booked.order),
@@ -56,9 +60,7 @@ impl OrderTable {
 
     // Nothing where the table is full.
     pub(crate) fn push(&mut self, booked: Booked)
-        requires { Roomy self.old }
-        ensures held { orders_held self.new ≡ pushed 128 (orders_held self.old) booked }
-        ensures room { Roomy self.new }
+        ensures { orders_held self.new ≡ pushed 128 (orders_held self.old) booked }
     {
         if self.count < 128 {
             self.orders[self.count] = booked;
@@ -68,9 +70,7 @@ impl OrderTable {
 
     // The outcome of an order; nothing where there is no such order.
     pub(crate) fn record(&mut self, number: usize, outcome: Outcome)
-        requires { Roomy self.old }
-        ensures held { orders_held self.new ≡ recorded number outcome (orders_held self.old) }
-        ensures room { Roomy self.new }
+        ensures { orders_held self.new ≡ recorded number outcome (orders_held self.old) }
     {
         if number < self.count {
             self.orders[number].result = Some(outcome);
@@ -96,14 +96,12 @@ impl ResourceTable {
     pub(crate) fn as_slice(&self) -> &[Resource]
         ensures held { result.now ≡ resources_held self.now }
         ensures room { length result.now ≤ 32 }
-        ensures powered { are_powered result.now ≡ true }
     {
         &self.resources[..self.count]
     }
 
     // Nothing where the table is full.
     pub(crate) fn push(&mut self, resource: Resource)
-        requires { resource.power ≤ 4000 }
         ensures { resources_held self.new ≡ pushed 32 (resources_held self.old) resource }
     {
         if self.count < 32 {

@@ -5,7 +5,7 @@ use Rattle.rulebooks.specs.Rules.{answered}
 use Rattle.rulebooks.specs.RuleLaws.{answer_within}
 use Rattle.ledger.specs.Words.{◌>>=◌, at, worth, toward}
 use Rattle.ledger.specs.Settling.{ruled_at, direction_number}
-use Rattle.settling.specs.History.{Near, summed_in, quarter_by}
+use Rattle.settling.specs.History.{Near, summed_in, quarter_with}
 use Rattle.settling.proofs.Totals.{near_size, kept, nearer}
 use Rattle.settling.proofs.sums.quarter_of.Given as given
 use Rattle.settling.proofs.sums.quarter_of.Goals as goal
@@ -44,7 +44,7 @@ returns-in-Ok g c =
     ∙ (sym b ∙ c.in-Ok.is)) in
     let w : c.toward.result ≡ toward dir (c.worth_at.result -ℤ c.in-Ok.baseline) = c.toward.ensures.value ∙ ap (toward dir) (omega (arith, ints)) in
     let w2 = w ∙ ap (λ (z : ℤ). toward dir (z -ℤ c.in-Ok.baseline)) c.worth_at.ensures.value in
-    let x : quarter_by R sums c.args.order c.args.number c.args.resource c.args.curve.now c.args.l c.args.c c.args.quarter ≡ Ok c.toward.result =
+    let x : quarter_with R sums c.args.order c.args.number c.args.resource c.args.curve.now c.args.l c.args.c c.args.quarter ≡ Ok c.toward.result =
     ap (λ (v : Result ℤ RuleFault). ruled_at c.args.number c.args.quarter v >>= (λ b. Ok (toward dir (worth (at c.args.curve.now c.args.quarter) -ℤ b)))) r ∙ ap (λ (z : ℤ). Ok z) (sym w2) in
     let n = c.toward.ensures.within in
     let k = kept c.toward.result (nearer _ n) in

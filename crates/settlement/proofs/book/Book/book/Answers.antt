@@ -12,9 +12,8 @@ invariant_of-self g c =
     let o : Order = record { day = c.args.day; q0 = c.args.q0; q1 = c.args.q1; direction = c.direction_of.result; qr = c.args.qr } in
     let p = placed_booked c.args.self.now.terms o c.args.direction (sym c.order_fits.ensures ∙ c.if-not-order_fits.false) (sym c.is_inside.ensures ∙ c.if-not-is_inside.false) in
     record {
-      places = c.push.ensures.room.places;
-      room = c.push.ensures.room.room;
-      standing = subst (λ (l : List Booked). are_standing l ≡ true) (sym c.push.ensures.held) (standing_more 128 (orders_held c.args.self.now.orders) _ c.args.self.now.standing p refl);
+      powered = c.args.self.now.powered;
+      standing = subst (λ (l : List Booked). are_standing l ≡ true) (sym c.push.ensures) (standing_more 128 (orders_held c.args.self.now.orders) _ c.args.self.now.standing p refl);
     }
 
 pub returns-then-number-ge128 : goal.returns-then-number-ge128

@@ -1,9 +1,19 @@
-use Rattle.std.proofs.Common.{◌≡◌, ℕ, ◌<◌, List, length, Ok, ap, ◌∙◌, arith, rules}
+use Rattle.std.proofs.Common.{◌≡◌, ℕ, ◌<◌, ◌≤◌, true, List, length, Ok, sym, ap, subst, ◌∙◌, arith, rules}
 use Rattle.ledger.specs.declared.records.Resource.{Resource}
 use Rattle.settlement.specs.Meant.{meaning, register_answer}
 use Rattle.settlement.specs.Tables.{resources_held}
+use Rattle.ledger.specs.Standing.{are_powered}
+use Rattle.settlement.proofs.Standing.{powered_more}
 use Rattle.settlement.proofs.Changes.{register_changes}
 use Rattle.settlement.proofs.book.Book.register.Goals as goal
+
+pub invariant_of-self : goal.invariant_of-self
+invariant_of-self g c =
+    let h : c.args.power ≤ 4000 = search rules in
+    record {
+      powered = subst (λ (l : List Resource). are_powered l ≡ true) (sym c.push.ensures) (powered_more 32 (resources_held c.args.self.now.resources) _ c.args.self.now.powered h);
+      standing = c.args.self.now.standing;
+    }
 
 pub returns : goal.returns
 returns g c =

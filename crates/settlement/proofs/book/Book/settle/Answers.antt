@@ -3,10 +3,11 @@ use Rattle.std.proofs.lemmas.Result.{err_from_is_err_and}
 use Rattle.ledger.specs.declared.fault.BookFault.{BookFault}
 use Rattle.ledger.specs.declared.records.Booked.{Booked}
 use Rattle.ledger.specs.declared.records.Outcome.{Outcome}
+use Rattle.ledger.specs.declared.records.Resource.{Resource}
 use Rattle.ledger.specs.Words.{Granted}
 use Rattle.ledger.specs.Settling.{Part}
 use Rattle.ledger.specs.Book.{Settlement, with_orders, settled}
-use Rattle.ledger.specs.Standing.{are_standing}
+use Rattle.ledger.specs.Standing.{are_powered, are_standing}
 use Rattle.settling.specs.Sheets.{settled_at, sheet_of}
 use Rattle.settlement.specs.Meant.{meaning, outcome_in, after_settle, sheet_after}
 use Rattle.settlement.specs.Tables.{orders_held}
@@ -20,9 +21,10 @@ returns-in_err-outcome g c =
     let ws = c.args.sheet.now in
     let o = c.in_ok-order.order in
     let xs = c.as_slice.ensures in
+    let p = subst (λ (l : List Resource). are_powered l ≡ true) (sym xs.held) c.args.self.now.powered in
     let q = err_from_is_err_and c.from_residual-in_err-outcome.result c.from_residual-in_err-outcome.ensures.1 in
     let sp = same_parts b o (length ws) _ _ c.as_slice-2.ensures.held xs.held in
-    let s = settle_break b c.args.number (length ws) o _ (sym c.to_settle.ensures.order ∙ c.in_ok-order.was) (can_settle_lem c.as_slice.result.now b.resources o xs.held xs.room xs.powered c.in_ok-order.ensures.placed) (sym c.in_err-outcome.was ∙ (c.settle_order.ensures.answer ∙ ap (settled_at b.terms o) sp)) in
+    let s = settle_break b c.args.number (length ws) o _ (sym c.to_settle.ensures.order ∙ c.in_ok-order.was) (can_settle_lem c.as_slice.result.now b.resources o xs.held xs.room p c.in_ok-order.ensures.placed) (sym c.in_err-outcome.was ∙ (c.settle_order.ensures.answer ∙ ap (settled_at b.terms o) sp)) in
     record {
       answer = q.1 ∙ (ap (λ (e : BookFault). Err e) q.2 ∙ sym (ap outcome_in s.0));
       after = sym (ap (after_settle b c.args.number) s.0);
@@ -32,9 +34,8 @@ returns-in_err-outcome g c =
 pub invariant_of-self-2 : goal.invariant_of-self-2
 invariant_of-self-2 g c =
     record {
-      places = c.record.ensures.room.places;
-      room = c.record.ensures.room.room;
-      standing = subst (λ (l : List Booked). are_standing l ≡ true) (sym c.record.ensures.held) (standing_recorded (orders_held c.args.self.now.orders) c.args.number _ c.args.self.now.standing c.in_ok-outcome.ensures.size);
+      powered = c.args.self.now.powered;
+      standing = subst (λ (l : List Booked). are_standing l ≡ true) (sym c.record.ensures) (standing_recorded (orders_held c.args.self.now.orders) c.args.number _ c.args.self.now.standing c.in_ok-outcome.ensures.size);
     }
 
 pub returns : goal.returns
@@ -44,10 +45,11 @@ returns g c =
     let o = c.in_ok-order.order in
     let x = c.in_ok-outcome.outcome in
     let xs = c.as_slice.ensures in
+    let p = subst (λ (l : List Resource). are_powered l ≡ true) (sym xs.held) c.args.self.now.powered in
     let sp = same_parts b o (length ws) _ _ c.as_slice-2.ensures.held xs.held in
-    let d = settle_done b c.args.number (length ws) o x (sym c.to_settle.ensures.order ∙ c.in_ok-order.was) (can_settle_lem c.as_slice.result.now b.resources o xs.held xs.room xs.powered c.in_ok-order.ensures.placed) (sym c.in_ok-outcome.was ∙ (c.settle_order.ensures.answer ∙ ap (settled_at b.terms o) sp)) in
+    let d = settle_done b c.args.number (length ws) o x (sym c.to_settle.ensures.order ∙ c.in_ok-order.was) (can_settle_lem c.as_slice.result.now b.resources o xs.held xs.room p c.in_ok-order.ensures.placed) (sym c.in_ok-outcome.was ∙ (c.settle_order.ensures.answer ∙ ap (settled_at b.terms o) sp)) in
     record {
       answer = ap (λ (y : Outcome). Ok y) d.outcome_is ∙ sym (ap outcome_in d.is);
-      after = ap (with_orders b) c.record.ensures.held ∙ (ap (settled b c.args.number) d.outcome_is ∙ sym (ap (after_settle b c.args.number) d.is));
+      after = ap (with_orders b) c.record.ensures ∙ (ap (settled b c.args.number) d.outcome_is ∙ sym (ap (after_settle b c.args.number) d.is));
       rows = c.settle_order.ensures.rows ∙ (ap (λ (m : Granted (List Part)). sheet_of m ws) (sp ∙ d.are) ∙ sym (ap (λ (m : Granted Settlement). sheet_after m ws) d.is));
     }
