@@ -2,7 +2,7 @@
 use Rattle.std.proofs.Common.{◌≡◌, ℕ, ◌+◌, ◌-◌, ◌*◌, ◌<◌, ◌≤◌, Bool, true, false, cond, not, ◌&&◌, List, [], ◌∷◌, ◌++◌, map, ℤ, pos, ◌-ℤ◌, Some, None, Ok, Err, Option, refl, ap, subst, ap₂, arith}
 use mathlib.Core.Path.{fun_ext}
 use mathlib.Core.Bool.{false≢true}
-use Rattle.std.specs.List.{AllByRecursion as All}
+use Rattle.std.specs.List.{AllByRecursion}
 use Rattle.std.proofs.ByRecursion.{All-weaker}
 use Rattle.metering.specs.declared.reading.Reading.{Reading}
 use Rattle.metering.specs.declared.curve.Curve.{Curve}
@@ -68,7 +68,7 @@ module _ (t : Terms) (R : Rules) (held held' : Held) (busy : ℕ → Bool) (os :
       go not_held = refl
       go (held_both {a = c} {b = c'} h) = ap worth (A.in_history d q (at c q) (at c' q) l e (h q))
 
-  module _ (days : List ℕ) (qs : List ℕ) (fit : All (Fit o.day (qualifies t held busy qs)) days) where
+  module _ (days : List ℕ) (qs : List ℕ) (fit : AllByRecursion (Fit o.day (qualifies t held busy qs)) days) where
     sum_same : (q : ℕ) → sum_over R held o r x days q ≡ sum_over R held' o r x days q
     sum_same q =
         total_cong (λ d. reading_on (held d) q) (λ d. reading_on (held' d) q) days
@@ -121,7 +121,7 @@ module _ (t : Terms) (R : Rules) (held held' : Held) (busy : ℕ → Bool) (os :
       let n : ℕ = needs R x in
       cond_both (measured_in c qs) (measured_in c' qs) (measured_same c c' h qs)
       (subst (λ test. Both (PartNear (apart (map (λ q. worth (at c q)) (ordered o)) (map (λ q. worth (at c' q)) (ordered o)))) (latest r n (qualifies t held busy qs) o.day >>= by_history R held o r x c) (latest r n test o.day >>= by_history R held' o r x c')) (qualifies_same qs)
-      (bind_self (All (Fit o.day (qualifies t held busy qs))) (latest r n (qualifies t held busy qs) o.day) (by_history R held o r x c) (by_history R held' o r x c')
+      (bind_self (AllByRecursion (Fit o.day (qualifies t held busy qs))) (latest r n (qualifies t held busy qs) o.day) (by_history R held o r x c) (by_history R held' o r x c')
       (latest_sure r n (qualifies t held busy qs) o.day)
       (λ days fit. history_near days qs fit c c' h)))
       (both (record { row = refl; estimated = refl; near = near_same (pos (x.power * (o.q1 - o.q0) * 250)) (apart (map (λ q. worth (at c q)) (ordered o)) (map (λ q. worth (at c' q)) (ordered o))) }))

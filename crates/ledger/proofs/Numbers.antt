@@ -1,6 +1,6 @@
 -- A number that another is at least, and near.
 use Rattle.std.proofs.Common.{ℕ, ◌+◌, ◌*◌, ◌≤◌, List, [], ◌∷◌, map, ℤ, pos, negsuc, ◌+ℤ◌, ◌-ℤ◌, ◌≤ℤ◌, Ok, mul-le-mul_right, arith}
-use Rattle.std.specs.List.{AllByRecursion as All}
+use Rattle.std.specs.List.{AllByRecursion}
 use Rattle.std.proofs.lemmas.Int.{ints}
 use Rattle.std.proofs.lemmas.Bool.Decides.{nat_tests}
 use Rattle.rulebooks.specs.Rounding.{rounded}
@@ -50,7 +50,7 @@ cents_more uf s t h =
     positive_more (rounded (pos (s * uf)) (pos 100000)) (rounded (pos (t * uf)) (pos 100000))
     (rounded_monotone (pos (s * uf)) (pos (t * uf)) (pos 100000) (omega (arith, ints)) (omega (arith, ints)))
 
-pub total_of_near : (f f' : ℕ → Granted ℤ) (v v' : ℕ → ℤ) (qs : List ℕ) → All (λ q. Both (λ x y. Near x y (distance (v q) (v' q))) (f q) (f' q)) qs → Both (λ x y. Near x y (apart (map v qs) (map v' qs))) (total_of f qs) (total_of f' qs)
+pub total_of_near : (f f' : ℕ → Granted ℤ) (v v' : ℕ → ℤ) (qs : List ℕ) → AllByRecursion (λ q. Both (λ x y. Near x y (distance (v q) (v' q))) (f q) (f' q)) qs → Both (λ x y. Near x y (apart (map v qs) (map v' qs))) (total_of f qs) (total_of f' qs)
 total_of_near f f' v v' [] h = both near_none
 total_of_near f f' v v' (q ∷ qs) h =
     bind_both (λ a. total_of f qs >>= (λ b. Ok (a +ℤ b))) (λ a. total_of f' qs >>= (λ b. Ok (a +ℤ b))) h.0 (λ a a' r.

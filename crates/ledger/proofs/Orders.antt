@@ -3,7 +3,7 @@ use Rattle.std.proofs.Common.{◌≡◌, ℕ, zero, suc, ◌+◌, ◌-◌, ◌<�
 use mathlib.Core.List.Memᴰ
 use mathlib.Core.List.{Memᴰ}
 use lib.Signed.{≤ℤ_refl}
-use Rattle.std.specs.List.{AllByRecursion as All}
+use Rattle.std.specs.List.{AllByRecursion}
 use Rattle.std.proofs.ByRecursion.{All-push}
 use Rattle.std.proofs.lemmas.Bool.{leb-true, ltb-true, eq-eqb, and_parts, or_left, or_right}
 use Rattle.metering.specs.declared.reading.Reading.{Reading}
@@ -33,9 +33,9 @@ Before a b = ends a + 8 ≤ starts b
 
 abbrev pub Chain : List Order → Type 0
 Chain [] = Unit {0}
-Chain (o ∷ os) = Good o × All (λ b. Before o b) os × Chain os
+Chain (o ∷ os) = Good o × AllByRecursion (λ b. Before o b) os × Chain os
 
-all_mem : {A : Type 0} (P : A → Type 0) {x : A} {xs : List A} → All P xs → Memᴰ x xs → P x
+all_mem : {A : Type 0} (P : A → Type 0) {x : A} {xs : List A} → AllByRecursion P xs → Memᴰ x xs → P x
 all_mem P h (Memᴰ.head e) = subst P (sym e) h.0
 all_mem P h (Memᴰ.tail m) = all_mem P h.1 m
 
@@ -71,7 +71,7 @@ grown_trans {os} {ps} {qs} g h = record { kept = λ a m. h.kept a (g.kept a m); 
     go b (inl m) = g.fresh b m
     go b (inr after) = inr (λ a m. after a (g.kept a m))
 
-grown_one : (o : Order) (os : List Order) → All (λ a. Before a o) os → Grown os (os ++ (o ∷ []))
+grown_one : (o : Order) (os : List Order) → AllByRecursion (λ a. Before a o) os → Grown os (os ++ (o ∷ []))
 grown_one o os h = record { kept = λ a m. Memᴰ.append_left (o ∷ []) m; fresh = λ b m. go b (Memᴰ.append_cases os m) }
   where
     last : (b : Order) → (b ≡ o) ⊎ Memᴰ b [] → Memᴰ b os ⊎ ((a : Order) → Memᴰ a os → Before a b)
@@ -82,11 +82,11 @@ grown_one o os h = record { kept = λ a m. Memᴰ.append_left (o ∷ []) m; fres
     go b (inl m) = inl m
     go b (inr m) = last b (Memᴰ.cases_cons m)
 
-chain_push : (o : Order) (os : List Order) → Chain os → Good o → All (λ a. Before a o) os → Chain (os ++ (o ∷ []))
+chain_push : (o : Order) (os : List Order) → Chain os → Good o → AllByRecursion (λ a. Before a o) os → Chain (os ++ (o ∷ []))
 chain_push o [] c g h = (g, tt, tt)
 chain_push o (a ∷ os) c g h = (c.0, All-push (λ b. Before a b) os o c.1 h.0, chain_push o os c.2 g h.1)
 
-all_before : (o : Order) (os : List Order) → Chain os → in_time os o ≡ true → All (λ a. Before a o) os
+all_before : (o : Order) (os : List Order) → Chain os → in_time os o ≡ true → AllByRecursion (λ a. Before a o) os
 all_before o [] c e = tt
 all_before o (a ∷ []) c e = (leb-true (ends a + 8) (starts o) e, tt)
 all_before o (a ∷ (b ∷ os)) c e =

@@ -1,7 +1,7 @@
 -- Two computations that may be refused, side by side; and sums over lists.
 use Rattle.std.proofs.Common.{◌≡◌, ℕ, zero, suc, ◌+◌, ◌<◌, ◌≤◌, Bool, true, false, cond, ltb, List, [], ◌∷◌, length, take, ℤ, ◌+ℤ◌, Ok, Err, filter, refl, ap₂, true≢false, arith}
 use mathlib.Core.Bool.{false≢true}
-use Rattle.std.specs.List.{AllByRecursion as All}
+use Rattle.std.specs.List.{AllByRecursion}
 use Rattle.std.proofs.ByRecursion.{All-take, All-weaker}
 use Rattle.ledger.specs.declared.fault.BookFault.TheVariants.{ShortHistory}
 use Rattle.ledger.specs.Words.{Granted, ◌>>=◌, total, each, counting, days_before}
@@ -42,36 +42,36 @@ each_both S f f' h (x ∷ xs) =
     bind_both (λ a. each f xs >>= (λ b. Ok (a ∷ b))) (λ a. each f' xs >>= (λ b. Ok (a ∷ b))) (h x) (λ a a' r.
     bind_both (λ b. Ok (a ∷ b)) (λ b. Ok (a' ∷ b)) (each_both S f f' h xs) (λ b b' rs. both (r, rs)))
 
-pub total_cong : {A : Type 0} (f g : A → ℤ) (xs : List A) → All (λ x. f x ≡ g x) xs → total f xs ≡ total g xs
+pub total_cong : {A : Type 0} (f g : A → ℤ) (xs : List A) → AllByRecursion (λ x. f x ≡ g x) xs → total f xs ≡ total g xs
 total_cong f g [] h = refl
 total_cong f g (x ∷ xs) h = ap₂ ◌+ℤ◌ h.0 (total_cong f g xs h.1)
 
-pub all_counting : (a n : ℕ) → All (λ q. (a ≤ q) × (q < a + n)) (counting a n)
+pub all_counting : (a n : ℕ) → AllByRecursion (λ q. (a ≤ q) × (q < a + n)) (counting a n)
 all_counting a zero = tt
 all_counting a (suc n) = ((omega arith, omega arith), All-weaker (λ q. (suc a ≤ q) × (q < suc a + n)) (λ q. (a ≤ q) × (q < a + suc n)) (λ q h. (omega arith, omega arith)) (counting (suc a) n) (all_counting (suc a) n))
 
-pub all_days_before : (d n : ℕ) → All (λ e. e < d) (days_before d n)
+pub all_days_before : (d n : ℕ) → AllByRecursion (λ e. e < d) (days_before d n)
 all_days_before d zero = tt
 all_days_before zero (suc n) = tt
 all_days_before (suc d) (suc n) = (omega arith, All-weaker (λ e. e < d) (λ e. e < suc d) (λ e h. omega arith) (days_before d n) (all_days_before d n))
 
-pub all_kept : {A : Type 0} (P : A → Type 0) (test : A → Bool) (xs : List A) → All P xs → All (λ x. P x × (test x ≡ true)) (filter test xs)
+pub all_kept : {A : Type 0} (P : A → Type 0) (test : A → Bool) (xs : List A) → AllByRecursion P xs → AllByRecursion (λ x. P x × (test x ≡ true)) (filter test xs)
 all_kept P test [] h = tt
 all_kept {A} P test (x ∷ xs) h = go (all_kept P test xs h.1) (test x) refl
   where
-    go : All (λ y. P y × (test y ≡ true)) (filter test xs) → (b : Bool) → test x ≡ b → All (λ y. P y × (test y ≡ true)) (cond b (x ∷ filter test xs) (filter test xs))
+    go : AllByRecursion (λ y. P y × (test y ≡ true)) (filter test xs) → (b : Bool) → test x ≡ b → AllByRecursion (λ y. P y × (test y ≡ true)) (cond b (x ∷ filter test xs) (filter test xs))
     go rest true e = ((h.0, e), rest)
     go rest false e = rest
 
 abbrev pub Fit : ℕ → (ℕ → Bool) → ℕ → Type 0
 Fit d test e = (e < d) × (test e ≡ true)
 
-pub latest_sure : (r n : ℕ) (test : ℕ → Bool) (d : ℕ) → Sure (All (Fit d test)) (latest r n test d)
+pub latest_sure : (r n : ℕ) (test : ℕ → Bool) (d : ℕ) → Sure (AllByRecursion (Fit d test)) (latest r n test d)
 latest_sure r n test d =
     let days : List ℕ = take n (filter test (days_before d 400)) in
-    let fit : All (Fit d test) days = All-take (Fit d test) n (filter test (days_before d 400)) (all_kept (λ e. e < d) test (days_before d 400) (all_days_before d 400)) in
+    let fit : AllByRecursion (Fit d test) days = All-take (Fit d test) n (filter test (days_before d 400)) (all_kept (λ e. e < d) test (days_before d 400) (all_days_before d 400)) in
     pick (ltb (length days) n) days fit
   where
-    pick : (b : Bool) (days : List ℕ) → All (Fit d test) days → Sure (All (Fit d test)) (cond b (Err (ShortHistory r (length days))) (Ok days))
+    pick : (b : Bool) (days : List ℕ) → AllByRecursion (Fit d test) days → Sure (AllByRecursion (Fit d test)) (cond b (Err (ShortHistory r (length days))) (Ok days))
     pick true days fit = tt
     pick false days fit = fit

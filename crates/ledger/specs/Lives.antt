@@ -1,7 +1,7 @@
 -- Two lives that differ only in how far pools went in the ordered direction, and what holds of them.
 use Rattle.std.specs.Prelude.{◌≡◌, ℕ, ◌+◌, ◌*◌, ◌<◌, ◌≤◌, cond, ◌⊎◌, List, [], ◌∷◌, map, ℤ, Some, Ok, Err, ◌==◌}
 use mathlib.Core.List.{Memᴰ}
-use Rattle.std.specs.List.{AllZip, AllByRecursion as All}
+use Rattle.std.specs.List.{AllZip, AllByRecursion}
 use Rattle.metering.specs.declared.reading.Reading.{Reading}
 use Rattle.metering.specs.declared.reading.Reading.TheVariants.{Measured}
 use Rattle.metering.specs.declared.curve.Curve.{Curve}
@@ -113,7 +113,7 @@ Fair (Settled x sheet) = (x.seta ≤ x.eda) × ((x.paid ≡ 0) ⊎ ((x.paid ≡ 
 Fair (Figures x) = Unit {0}
 
 abbrev pub Bounds : Type 0
-Bounds = (b : Book) (xs : List Call) → All Fair (run b xs)
+Bounds = (b : Book) (xs : List Call) → AllByRecursion Fair (run b xs)
 
 -- THE UNADJUSTED MEAN
 

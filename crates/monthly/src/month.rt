@@ -162,7 +162,7 @@ fn figures(terms: &Terms, av: u32, di: u32, sums: Sums) -> Month
     }
 }
 
-fn month_of(
+pub(crate) fn month_figures(
     terms: &Terms,
     orders: &[Booked],
     declarations: &[Declaration],
@@ -205,7 +205,7 @@ fn are_modest(orders: &[Booked]) -> bool
 }
 
 // Refused with 14 where no book has such orders.
-pub fn month_figures(
+pub fn month_in(
     terms: &Terms,
     orders: &[Booked],
     declarations: &[Declaration],
@@ -220,5 +220,5 @@ pub fn month_figures(
     if !are_modest(orders) {
         return Err(BookFault::Number);
     }
-    month_of(terms, orders, declarations, year, month)
+    month_figures(terms, orders, declarations, year, month)
 }

@@ -7,7 +7,7 @@ use ledger::terms::Terms;
 
 mod booking;
 mod entering;
-mod monthly;
+mod months;
 mod questions;
 mod registering;
 mod settlement;

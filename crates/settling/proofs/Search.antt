@@ -1,13 +1,14 @@
 -- The search for history days, on the lists of the definitions.
-use Rattle.std.proofs.Common.{◌≡◌, ℕ, zero, suc, ◌+◌, ◌-◌, ◌<◌, ◌≤◌, Bool, true, false, cond, ◌&&◌, ltb, ◌≢◌, List, [], ◌∷◌, ◌++◌, map, length, get_or, take, set, Some, Ok, Err, filter, Option, sym, refl, ap, ◌∙◌, subst, inl, inr, add-zero, add-one, arith}
-use Rattle.std.proofs.lemmas.List.{take_more_set, append_assoc, append-nil, map_push, get_or-set_same, get_or-set_other}
+use Rattle.std.proofs.Common.{◌≡◌, ℕ, zero, suc, ◌+◌, ◌-◌, ◌*◌, ◌<◌, ◌≤◌, Bool, true, false, cond, ◌&&◌, ltb, ◌≢◌, List, [], ◌∷◌, ◌++◌, length, get_or, take, set, Ok, Err, filter, Result, sym, refl, ap, ◌∙◌, subst, inl, inr, add-zero, add-one, arith}
+use Rattle.std.proofs.lemmas.List.{take_more_set, append_assoc, append-nil, get_or-set_same, get_or-set_other}
 use Rattle.std.proofs.lemmas.Bool.{cases_lt, lt-ltb, le-ltb}
 use Rattle.metering.specs.declared.curve.Curve.{Curve}
 use Rattle.ledger.specs.declared.records.Order.{Order}
 use Rattle.ledger.specs.Words.{at, is_measured, measured_in, counting, days_before, lead, ordered}
+use Rattle.ledger.specs.declared.fault.BookFault.{BookFault}
 use Rattle.ledger.specs.declared.fault.BookFault.TheVariants.{ShortHistory}
-use Rattle.ledger.specs.Settling.{Held, latest}
-use Rattle.settling.specs.History.{Placed, Kept, passing}
+use Rattle.ledger.specs.Settling.{latest}
+use Rattle.settling.specs.History.{Placed, passing}
 
 pub measured_more : (c : Curve) (q b : ℕ) → q < b → measured_in c (counting q (b - q)) ≡ (is_measured (at c q) && measured_in c (counting (q + 1) (b - (q + 1))))
 measured_more c q b h =
@@ -110,10 +111,3 @@ earlier_more xs i d D l h p k q =
       | inl b ↦ (let ne : k ≢ i = omega arith in rw get_or-set_other (p k b))
       | inr b ↦ (let e : i ≡ k = omega arith in let P : ℕ → Type 0 = λ m. get_or (set xs i d) m 0 < D in subst P e (rw get_or-set_same h))
     ]
-
--- one more day, and the curve held for it
-pub kept_more : (held : Held) (ds : List ℕ) (cs : List Curve) (k d : ℕ) (c : Curve) → k < length ds → k < length cs → held d ≡ Some c → Kept held (take k ds) (take k cs) → Kept held (take (k + 1) (set ds k d)) (take (k + 1) (set cs k c))
-kept_more held ds cs k d c l m e inv =
-    ap (map held) (take_more_set ds k d l) ∙ (map_push held (take k ds) d
-    ∙ (ap (λ (ys : List (Option Curve)). ys ++ (held d ∷ [])) inv ∙ (ap (λ (y : Option Curve). map Some (take k cs) ++ (y ∷ [])) e
-    ∙ sym (ap (map Some) (take_more_set cs k c m) ∙ map_push Some (take k cs) c))))

@@ -1,5 +1,5 @@
 -- The search for history days, and what the sums over them keep to.
-use Rattle.std.specs.Prelude.{◌≡◌, ℕ, ◌-◌, ◌<◌, ◌≤◌, Bool, true, false, List, ◌∷◌, ◌++◌, map, take, ℤ, pos, ◌-ℤ◌, neg_ℤ, ◌≤ℤ◌, Some, None, Ok, Err, filter, Option, Result}
+use Rattle.std.specs.Prelude.{◌≡◌, ℕ, ◌-◌, ◌<◌, ◌≤◌, Bool, true, false, List, [], ◌∷◌, ◌++◌, take, ℤ, pos, ◌-ℤ◌, neg_ℤ, ◌≤ℤ◌, Some, None, Ok, Err, filter, Option, Result}
 use Rattle.ledger.specs.declared.fault.BookFault.{BookFault}
 use Rattle.ledger.specs.declared.terms.Terms.{Terms}
 use Rattle.ledger.specs.declared.records.Order.{Order}
@@ -10,8 +10,8 @@ use Rattle.metering.specs.declared.reading.Reading.TheVariants.{Measured, Estima
 use Rattle.metering.specs.declared.curve.Curve.{Curve}
 use Rattle.rulebooks.specs.Rules.{Rules, answered}
 use Rattle.ledger.specs.declared.records.Resource.{Resource}
-use Rattle.ledger.specs.Words.{Granted, ◌>>=◌, at, worth, toward, ordered, lead, days_before, total, total_of}
-use Rattle.ledger.specs.Settling.{Held, Part, reading_on, qualifies, ruled_at, direction_number}
+use Rattle.ledger.specs.Words.{Granted, ◌>>=◌, at, worth, toward, ordered, lead, days_before, total}
+use Rattle.ledger.specs.Settling.{Held, reading_on, qualifies, ruled_at, direction_number}
 use Rattle.ledger.specs.Book.{orders_in, busy_on}
 
 -- what every booked order keeps to
@@ -35,24 +35,7 @@ abbrev pub FoundOn : Bool → Option Curve → Option Curve → Type 0
 FoundOn passes held None = passes ≡ false
 FoundOn passes held (Some c) = (passes ≡ true) × (held ≡ Some c)
 
--- the latest day that passes, with the curve held for it
-pub record NextDay (test : ℕ → Bool) (held : Held) (low before day : ℕ) (c : Curve) : Type 0 where
-  pub above : low ≤ day
-  pub below : day < before
-  pub rest : passing test low before ≡ day ∷ passing test low day
-  pub curve_is : held day ≡ Some c
-
--- each curve is the one held for its day
-abbrev pub Kept : Held → List ℕ → List Curve → Type 0
-Kept held days cs = map held days ≡ map Some cs
-
--- the days that stand in a table, and their curves
-abbrev pub days_of : Days → List ℕ
-days_of x = take x.count x.at
-
-abbrev pub curves_of : Days → List Curve
-curves_of x = take x.count x.curves
-
+-- the days that stand in a table
 abbrev pub days_in : Result Days BookFault → Granted (List ℕ)
 days_in (Ok x) = Ok (take x.count x.at)
 days_in (Err e) = Err e
@@ -63,12 +46,9 @@ worth_of None = pos 0
 worth_of (Some (Measured z)) = z
 worth_of (Some Estimated) = pos 0
 
--- the three sums: a quarter over the days, or over the curves found for them, and the lead quarters on the day
+-- the three sums, as settling has them: a quarter over the days, the lead quarters over them, the lead quarters on the day
 abbrev pub summed : Held → List ℕ → ℕ → ℤ
 summed held days q = total (λ d. reading_on (held d) q) days
-
-abbrev pub summed_in : List Curve → ℕ → ℤ
-summed_in cs q = total (λ c. worth (at c q)) cs
 
 abbrev pub lead_summed : Held → Order → List ℕ → ℤ
 lead_summed held o days = total (summed held days) (lead o)
@@ -80,17 +60,6 @@ lead_sum o c = total (λ q. worth (at c q)) (lead o)
 abbrev pub quarter_by : Rules → Held → Order → ℕ → Resource → List ℕ → Curve → ℤ → ℤ → ℕ → Granted ℤ
 quarter_by R held o r x days c l now q =
     ruled_at r q (answered R x.choice (direction_number o.direction) (summed held days q) l now) >>= (λ b. Ok (toward o.direction (worth (at c q) -ℤ b)))
-
--- the same, where only the sums over the history days are known
-abbrev pub quarter_with : Rules → (ℕ → ℤ) → Order → ℕ → Resource → Curve → ℤ → ℤ → ℕ → Granted ℤ
-quarter_with R sums o r x c l now q =
-    ruled_at r q (answered R x.choice (direction_number o.direction) (sums q) l now) >>= (λ b. Ok (toward o.direction (worth (at c q) -ℤ b)))
-
--- a resource settled by its history, where only the sums over its days are known
-abbrev pub by_sums : Rules → (ℕ → ℤ) → Order → ℕ → Resource → Curve → List ℕ → Granted Part
-by_sums R sums o r x c days =
-    total_of (quarter_with R sums o r x c (total sums (lead o)) (lead_sum o c)) (ordered o) >>= (λ a.
-    Ok (record { days = days; lead_then = total sums (lead o); lead_now = lead_sum o c; estimated = false; amount = a }))
 
 -- at most n, either way
 pub record Near (n : ℕ) (z : ℤ) : Type 0 where

@@ -1,8 +1,8 @@
 // The history of an order at one resource: which days can stand in it, and the latest of them.
-ghost use Rattle.std.specs.Prelude.{◌≡◌, ℕ, ◌-◌, ◌<◌, ◌≤◌, [], ◌++◌, IfOk, MatchOption, slice_index};
+ghost use Rattle.std.specs.Prelude.{◌≡◌, ℕ, ◌-◌, ◌<◌, ◌≤◌, [], ◌∷◌, ◌++◌, IfOk, MatchOption, slice_index};
 ghost use Rattle.ledger.specs.Words.{at as quarter_of, is_measured, measured_in, counting, lead, ordered};
 ghost use Rattle.ledger.specs.Settling.{is_whole, latest as latest_of};
-ghost use Rattle.settling.specs.History.{Placed, FoundOn, NextDay, Kept, fits, passing, days_of, curves_of, days_in};
+ghost use Rattle.settling.specs.History.{Placed, FoundOn, fits, passing, days_in};
 
 use ledger::days::{in_kinds, is_busy};
 use ledger::fault::BookFault;
@@ -71,26 +71,28 @@ pub(crate) fn clean_curve<S: Store>(
     }
 }
 
-// The curve of a day that qualifies; the store is asked last, since a look-up can be a pass over a whole journal.
-fn qualifying<S: Store>(
+fn has_clean<S: Store>(store: &S, resource: u32, order: Order, day: u32) -> bool
+    requires { Placed order }
+    ensures { result ≡ is_whole ((S.Store.model store.now).look resource day) (lead order ++ ordered order) }
+{
+    clean_curve(store, resource, order, day).is_some()
+}
+
+pub(crate) fn qualifies<S: Store>(
     terms: &Terms,
     store: &S,
     resource: u32,
     orders: &[Booked],
     order: Order,
     day: u32,
-) -> Option<Curve>
+) -> bool
     requires { Placed order }
-    ensures { FoundOn (fits terms.now ((S.Store.model store.now).look resource) orders.now order day) ((S.Store.model store.now).look resource day) result }
+    ensures { result ≡ fits terms.now ((S.Store.model store.now).look resource) orders.now order day }
 {
-    if in_kinds(terms, day) && !is_busy(orders, day) {
-        clean_curve(store, resource, order, day)
-    } else {
-        None
-    }
+    in_kinds(terms, day) && !is_busy(orders, day) && has_clean(store, resource, order, day)
 }
 
-// The latest day that qualifies, before one day and not before another; its curve goes to `curve`.
+// The latest day that qualifies, before one day and not before another.
 pub(crate) fn next_day<S: Store>(
     terms: &Terms,
     store: &S,
@@ -99,25 +101,22 @@ pub(crate) fn next_day<S: Store>(
     order: Order,
     low: u32,
     before: u32,
-    curve: &mut Curve,
 ) -> Option<u32>
     requires { Placed order }
-    ensures { MatchOption result (passing (fits terms.now ((S.Store.model store.now).look resource) orders.now order) low before ≡ []) (λ d. NextDay (fits terms.now ((S.Store.model store.now).look resource) orders.now order) ((S.Store.model store.now).look resource) low before d curve.new) }
+    ensures { MatchOption result (passing (fits terms.now ((S.Store.model store.now).look resource) orders.now order) low before ≡ []) (λ d. (low ≤ d) × (d < before) × (passing (fits terms.now ((S.Store.model store.now).look resource) orders.now order) low before ≡ d ∷ passing (fits terms.now ((S.Store.model store.now).look resource) orders.now order) low d)) }
 {
     for day in (low..before).rev() {
-        if let Some(found) = qualifying(terms, store, resource, orders, order, day) {
-            *curve = found;
+        if qualifies(terms, store, resource, orders, order, day) {
             return Some(day);
         }
     }
     None
 }
 
-// History days, latest first, and their curves: the first `count` of each table.
+// History days, latest first: the first `count` of the table.
 #[derive(Clone, Copy)]
 pub(crate) struct Days {
     pub at: [u32; 15],
-    pub curves: [Curve; 15],
     pub count: usize,
 }
 
@@ -135,23 +134,12 @@ pub(crate) fn latest<S: Store>(
     ensures days { days_in result ≡ latest_of resource n (fits terms.now ((S.Store.model store.now).look resource) orders.now order) order.day }
     ensures number { IfOk result (λ x. x.count ≡ n) }
     ensures earlier { IfOk result (λ x. (k : ℕ) → k < n → slice_index x.at k < order.day) }
-    ensures curves { IfOk result (λ x. Kept ((S.Store.model store.now).look resource) (days_of x) (curves_of x)) }
 {
     let low = order.day.saturating_sub(REACH);
     let mut at = [0u32; MOST_DAYS];
-    let mut curves = [Curve::blank(); MOST_DAYS];
     let mut before = order.day;
     for found in 0..n {
-        let Some(day) = next_day(
-            terms,
-            store,
-            resource,
-            orders,
-            order,
-            low,
-            before,
-            &mut curves[found],
-        ) else {
+        let Some(day) = next_day(terms, store, resource, orders, order, low, before) else {
             return Err(BookFault::ShortHistory {
                 resource,
                 found: found as u32,
@@ -160,9 +148,5 @@ pub(crate) fn latest<S: Store>(
         at[found] = day;
         before = day;
     }
-    Ok(Days {
-        at,
-        curves,
-        count: n,
-    })
+    Ok(Days { at, count: n })
 }

@@ -1,14 +1,14 @@
 // What each resource brings to an order, and what the order settles at.
 ghost use Rattle.std.specs.Prelude.{◌≡◌, ℕ, ◌+◌, ◌-◌, ◌*◌, ◌<◌, ◌≤◌, true, ◌||◌, ◌++◌, length, take, IfOk, Some, slice_index};
 ghost use Rattle.ledger.specs.Book.{orders_in, busy_on};
-ghost use Rattle.ledger.specs.Settling.{needs as needs_of, part, parts};
-ghost use Rattle.settling.specs.History.{Placed, Near, days_of, curves_of, summed_in, by_sums};
+ghost use Rattle.ledger.specs.Settling.{needs as needs_of, part, parts, by_history};
+ghost use Rattle.settling.specs.History.{Placed, Near};
 ghost use Rattle.ledger.specs.Standing.{is_placed, is_modest, are_powered};
 ghost use Rattle.settling.specs.Sheets.{Powered, settled_at, sheet_of, can_settle, order_parts};
 ghost use Rattle.settling.specs.Evidence.{power_settled, by_days, given, NearSettled};
 
 use crate::evidence::history_row;
-use crate::history::{Days, clean_curve, latest};
+use crate::history::{clean_curve, latest};
 use crate::outcome::outcome_by;
 use crate::sums::{contribution, lead_on, lead_over};
 use ledger::fault::BookFault;
@@ -46,27 +46,26 @@ fn power_energy(resource: Resource, order: Order) -> u32
     resource.power * (order.q1 - order.q0) * 250
 }
 
-fn by_history<R: Rulebook>(
+fn by_history<S: Store, R: Rulebook>(
+    store: &S,
     rules: &R,
     order: Order,
     number: u32,
     resource: Resource,
     curve: &Curve,
-    days: &Days,
+    days: &[u32],
 ) -> Result<Settled, BookFault>
     requires placed { Placed order }
-    requires few { days.now.count ≤ 15 }
-    requires known { (i : ℕ) → i < days.now.count → slice_index days.now.at i ≤ 36524 }
-    ensures value { result ≡ given (by_sums (R.Rulebook.rules rules.now) (summed_in (curves_of days.now)) order number resource curve.now (days_of days.now)) }
+    requires few { length days.now ≤ 15 }
+    requires known { (i : ℕ) → i < length days.now → slice_index days.now i ≤ 36524 }
+    ensures value { result ≡ given (by_history (R.Rulebook.rules rules.now) ((S.Store.model store.now).look number) order number resource curve.now days.now) }
     ensures within { NearSettled 1056000000 result }
 {
-    let at = &days.at[..days.count];
-    let curves = &days.curves[..days.count];
-    let l = lead_over(curves, order);
+    let l = lead_over(store, number, days, order);
     let c = lead_on(curve, order);
-    let amount = contribution(rules, order, number, resource, curves, curve, l, c)?;
+    let amount = contribution(store, rules, order, number, resource, days, curve, l, c)?;
     Ok(Settled {
-        row: history_row(at, c as i32, l as i32),
+        row: history_row(days, c as i32, l as i32),
         estimated: false,
         amount,
     })
@@ -101,7 +100,15 @@ fn by_days<S: Store, R: Rulebook>(
     ensures within { NearSettled 1056000000 result }
 {
     let days = latest(terms, store, number, orders, order, needs(rules, resource))?;
-    by_history(rules, order, number, resource, curve, &days)
+    by_history(
+        store,
+        rules,
+        order,
+        number,
+        resource,
+        curve,
+        &days.at[..days.count],
+    )
 }
 
 // One resource: by its history, or by its power where a quarter of the day is estimated.

@@ -1,6 +1,11 @@
-use Rattle.std.proofs.Common.{sym, ◌∙◌}
-use Rattle.monthly.proofs.Modest.{all_kept}
+use Rattle.calendar.specs.Gregorian.{is_month, first_day, last_day}
+use Rattle.monthly.proofs.Monthed.{from_parts}
 use Rattle.monthly.proofs.month.month_figures.Goals as goal
 
-pub month_of-requires : goal.month_of-requires
-month_of-requires c = all_kept c.args.orders.now (sym c.are_modest.ensures ∙ c.if-not-are_modest.false) c.if-orders-gt128.false
+pub returns : goal.returns
+returns c =
+    let y = c.args.year in
+    let m = c.args.month in
+    from_parts c.args.terms.now c.args.orders.now c.args.declarations.now (is_month y m) (first_day y m) (last_day y m) _ _ _ _ _ _
+    c.in-Some.ensures.value c.in-Some-last_day.ensures.value c.in_ok-sums.ensures.value
+    c.available-av.ensures.count c.offered-di.ensures.count c.figures.ensures

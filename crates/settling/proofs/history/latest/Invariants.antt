@@ -1,5 +1,5 @@
 use Rattle.std.proofs.Common.{◌≡◌, ℕ, ◌-◌, ◌<◌, ◌≤◌, Bool, ◌++◌, length, get_or, take}
-use Rattle.settling.specs.History.{Kept, fits, passing}
+use Rattle.settling.specs.History.{fits, passing}
 use Rattle.settling.proofs.history.latest.Given as goal
 
 abbrev pub invariant-loop-found : goal.invariant-loop-found
@@ -9,5 +9,3 @@ invariant-loop-found g l =
     × (length l.at ≡ 15)
     × (l.before ≤ l.order.day)
     × ((k : ℕ) → k < l.found → get_or l.at k 0 < l.order.day)
-    × (length l.curves ≡ 15)
-    × Kept ((g.S.Store.model l.store).look l.resource) (take l.found l.at) (take l.found l.curves)

@@ -1,13 +1,14 @@
-use Rattle.std.proofs.Common.{◌≡◌, false, List, ℤ, Ok, Err, sym, ap, ◌∙◌, subst, arith, w32, w64, SFits, to_z, of_z, rules}
+use Rattle.std.proofs.Common.{◌≡◌, ℕ, Bool, true, false, List, ℤ, Ok, Err, Result, sym, refl, ap, ◌∙◌, subst, arith, w32, w64, SFits, to_z, of_z, rules}
 use Rattle.std.proofs.lemmas.Result.{err_from_is_err_and}
 use Rattle.std.proofs.lemmas.Int.{ints, to_z-of_z}
 use Rattle.ledger.specs.declared.fault.BookFault.{BookFault}
 use Rattle.settling.specs.declared.parts.Settled.{Settled}
-use Rattle.ledger.specs.Words.{Granted, ◌>>=◌}
-use Rattle.settling.specs.History.{Near, days_of, curves_of, summed_in, by_sums}
+use Rattle.ledger.specs.Words.{Granted, ◌>>=◌, ordered, total_of}
+use Rattle.ledger.specs.Settling.{by_history}
+use Rattle.settling.specs.History.{Near, quarter_by}
 use Rattle.settling.specs.Evidence.{history_row, given}
 use Rattle.settling.proofs.Totals.{kept}
-use Rattle.settling.proofs.Histories.{narrowed, shown, history_is, table_few, table_known}
+use Rattle.settling.proofs.Histories.{narrowed, shown, history_is}
 use Rattle.settling.proofs.parts.by_history.Given as over
 use Rattle.settling.proofs.parts.by_history.Goals as goal
 use Rattle.settling.proofs.parts.by_history.Goals.{After-contribution}
@@ -19,28 +20,19 @@ near_c : (z : ℤ) → Near 8000000 z → Near 120000000 z
 near_c z h = record { low = omega (arith, ints); high = omega (arith, ints) }
 
 sure : (g : over.Over) (c : After-contribution g) →
-    given (by_sums (g.R.Rulebook.rules c.args.rules.now) (summed_in (curves_of c.args.days.now)) c.args.order c.args.number c.args.resource c.args.curve.now (days_of c.args.days.now))
-    ≡ (c.contribution.result >>= shown (days_of c.args.days.now) c.lead_on-c.result c.lead_over-l.result)
+    given (by_history (g.R.Rulebook.rules c.args.rules.now) ((g.S.Store.model c.args.store.now).look c.args.number) c.args.order c.args.number c.args.resource c.args.curve.now c.args.days.now)
+    ≡ (c.contribution.result >>= shown c.args.days.now c.lead_on-c.result c.lead_over-l.result)
 sure g c =
     let fl : SFits w64 c.lead_over-l.result = search rules in
     let fc : SFits w64 c.lead_on-c.result = search rules in
-    history_is (g.R.Rulebook.rules c.args.rules.now) (summed_in (curves_of c.args.days.now)) c.args.order c.args.number c.args.resource c.args.curve.now (days_of c.args.days.now)
+    history_is (g.R.Rulebook.rules c.args.rules.now) ((g.S.Store.model c.args.store.now).look c.args.number) c.args.order c.args.number c.args.resource c.args.curve.now c.args.days.now
     c.lead_over-l.result c.lead_on-c.result c.contribution.result
     c.lead_over-l.ensures.value c.lead_on-c.ensures.value (simp to_z-of_z at c.contribution.ensures.value)
-
-pub lead_over-l-requires : goal.lead_over-l-requires
-lead_over-l-requires g c = record { few = table_few c.args.days.now.curves c.args.days.now.count c.requires.few; placed = c.requires.placed }
-
-pub contribution-requires : goal.contribution-requires
-contribution-requires g c = record { few = table_few c.args.days.now.curves c.args.days.now.count c.requires.few; placed = c.requires.placed }
-
-pub history_row-requires : goal.history_row-requires
-history_row-requires g c = record { few = table_few c.args.days.now.at c.args.days.now.count c.requires.few; known = table_known c.args.days.now.at c.args.days.now.count c.requires.known }
 
 pub returns-in_err-amount : goal.returns-in_err-amount
 returns-in_err-amount g c =
     let q = err_from_is_err_and c.from_residual.result c.from_residual.ensures.1 in
-    let s = sure g (goal.at.returns-in_err-amount g c).After-contribution ∙ ap (λ (v : Granted ℤ). v >>= shown (days_of c.args.days.now) c.lead_on-c.result c.lead_over-l.result) c.in_err-amount.was in
+    let s = sure g (goal.at.returns-in_err-amount g c).After-contribution ∙ ap (λ (v : Granted ℤ). v >>= shown c.args.days.now c.lead_on-c.result c.lead_over-l.result) c.in_err-amount.was in
     record { value = q.1 ∙ (ap (λ (e : BookFault). Err e) q.2 ∙ sym s); within = rw q.1 tt }
 
 pub overflow_cast-c : goal.overflow_cast-c
@@ -51,7 +43,7 @@ overflow_cast-l g c = let w = c.lead_over-l.ensures.within in omega (arith, ints
 
 pub returns : goal.returns
 returns g c =
-    let days = days_of c.args.days.now in
+    let days = c.args.days.now in
     let s = sure g (goal.at.returns g c).After-contribution ∙ ap (λ (v : Granted ℤ). v >>= shown days c.lead_on-c.result c.lead_over-l.result) c.in_ok-amount.was in
     let n = c.in_ok-amount.ensures.within in
     let k = kept c.in_ok-amount.amount n in

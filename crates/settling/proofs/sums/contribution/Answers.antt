@@ -1,9 +1,9 @@
-use Rattle.std.proofs.Common.{◌≡◌, ℕ, ℤ, Ok, Err, sym, ap, ◌∙◌, arith}
+use Rattle.std.proofs.Common.{◌≡◌, ℕ, ◌+◌, ◌-◌, ◌*◌, ℤ, ◌+ℤ◌, Ok, Err, Result, sym, refl, ap, ◌∙◌, subst, arith, rules}
 use Rattle.std.proofs.lemmas.Result.{err_from_is_err_and}
 use Rattle.std.proofs.lemmas.Int.{ints, to_z-of_z}
 use Rattle.ledger.specs.declared.fault.BookFault.{BookFault}
-use Rattle.ledger.specs.Words.{Granted}
-use Rattle.settling.specs.History.{summed_in, quarter_with}
+use Rattle.ledger.specs.Words.{Granted, total_of, counting}
+use Rattle.settling.specs.History.{Near, quarter_by}
 use Rattle.settling.proofs.Totals.{grant_more, grant_break}
 use Rattle.settling.proofs.sums.contribution.Goals as goal
 
@@ -11,7 +11,7 @@ pub returns-in_err-sum : goal.returns-in_err-sum
 returns-in_err-sum g c =
     let fl = c.ranges.l in
     let fc = c.ranges.c in
-    let f : ℕ → Granted ℤ = quarter_with (g.R.Rulebook.rules c.args.rules.now) (summed_in c.args.curves.now) c.args.order c.args.number c.args.resource c.args.curve.now c.args.l c.args.c in
+    let f : ℕ → Granted ℤ = quarter_by (g.R.Rulebook.rules c.args.rules.now) ((g.S.Store.model c.args.store.now).look c.args.number) c.args.order c.args.number c.args.resource c.args.days.now c.args.curve.now c.args.l c.args.c in
     let p = err_from_is_err_and c.from_residual.result c.from_residual.ensures.1 in
     let i = simp to_z-of_z at c.loop-quarter.invariant.0 in
     let a = simp to_z-of_z at c.quarter_of.ensures.value in
@@ -23,7 +23,7 @@ pub loop-quarter-preserved : goal.loop-quarter-preserved
 loop-quarter-preserved g c =
     let fl = c.ranges.l in
     let fc = c.ranges.c in
-    let f : ℕ → Granted ℤ = quarter_with (g.R.Rulebook.rules c.args.rules.now) (summed_in c.args.curves.now) c.args.order c.args.number c.args.resource c.args.curve.now c.args.l c.args.c in
+    let f : ℕ → Granted ℤ = quarter_by (g.R.Rulebook.rules c.args.rules.now) ((g.S.Store.model c.args.store.now).look c.args.number) c.args.order c.args.number c.args.resource c.args.days.now c.args.curve.now c.args.l c.args.c in
     let n = c.loop-quarter.invariant.1 in
     let m = c.in_ok-sum.ensures.within in
     let e1 = c.requires.placed.ends in

@@ -1,13 +1,13 @@
-use Rattle.std.proofs.Common.{◌≡◌, ℕ, ◌-◌, ℤ, sym, ap, ◌∙◌, arith}
+use Rattle.std.proofs.Common.{◌≡◌, ℕ, ◌+◌, ◌-◌, ℤ, sym, ap, ◌∙◌, arith}
 use Rattle.std.proofs.lemmas.Int.{ints}
 use Rattle.ledger.specs.Words.{total, counting}
-use Rattle.settling.specs.History.{summed_in}
+use Rattle.settling.specs.History.{summed}
 use Rattle.settling.proofs.Totals.{count_more}
 use Rattle.settling.proofs.sums.lead_over.Goals as goal
 
 pub loop-quarter-preserved : goal.loop-quarter-preserved
-loop-quarter-preserved c =
-    let f : ℕ → ℤ = summed_in c.args.curves.now in
+loop-quarter-preserved g c =
+    let f : ℕ → ℤ = summed ((g.S.Store.model c.args.store.now).look c.args.resource) c.args.days.now in
     let n = c.loop-quarter.invariant.1 in
     let v = c.sum_over-sum.ensures.within in
     let a = c.requires.placed.leads in (
@@ -16,8 +16,8 @@ loop-quarter-preserved c =
     )
 
 pub returns : goal.returns
-returns c =
-    let f : ℕ → ℤ = summed_in c.args.curves.now in
+returns g c =
+    let f : ℕ → ℤ = summed ((g.S.Store.model c.args.store.now).look c.args.resource) c.args.days.now in
     let n = c.loop-quarter.invariant.1 in
     let a = c.requires.placed.leads in
     let e : c.loop-quarter.quarter - (c.args.order.q0 - 8) ≡ 8 = omega arith in

@@ -1,7 +1,7 @@
-use Rattle.std.proofs.Common.{◌≡◌, ◌-◌, ◌*◌}
+use Rattle.std.proofs.Common.{◌≡◌, ℕ, ◌-◌, ◌*◌}
 use Rattle.ledger.specs.Words.{total, counting}
-use Rattle.settling.specs.History.{Near, summed_in}
+use Rattle.settling.specs.History.{Near, summed}
 use Rattle.settling.proofs.sums.lead_over.Given as goal
 
 abbrev pub invariant-loop-quarter : goal.invariant-loop-quarter
-invariant-loop-quarter l = (l.sum ≡ total (summed_in l.curves) (counting l.initial.quarter (l.quarter - l.initial.quarter))) × Near (15000000 * (l.quarter - l.initial.quarter)) l.sum
+invariant-loop-quarter g l = (l.sum ≡ total (summed ((g.S.Store.model l.store).look l.resource) l.days) (counting l.initial.quarter (l.quarter - l.initial.quarter))) × Near (15000000 * (l.quarter - l.initial.quarter)) l.sum

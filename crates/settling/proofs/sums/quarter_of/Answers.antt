@@ -1,11 +1,11 @@
-use Rattle.std.proofs.Common.{◌≡◌, ℕ, ℤ, ◌-ℤ◌, Ok, Result, sym, ap, ◌∙◌, subst, arith, w64, SFits, rules}
+use Rattle.std.proofs.Common.{◌≡◌, ℕ, ℤ, ◌-ℤ◌, Ok, Err, Result, sym, refl, ap, ◌∙◌, subst, arith, w64, SFits, rules}
 use Rattle.std.proofs.lemmas.Int.{ints, to_z-of_z}
 use Rattle.rulebooks.specs.declared.rule.RuleFault.{RuleFault}
 use Rattle.rulebooks.specs.Rules.{answered}
 use Rattle.rulebooks.specs.RuleLaws.{answer_within}
-use Rattle.ledger.specs.Words.{◌>>=◌, at, worth, toward}
+use Rattle.ledger.specs.Words.{Granted, ◌>>=◌, at, worth, toward}
 use Rattle.ledger.specs.Settling.{ruled_at, direction_number}
-use Rattle.settling.specs.History.{Near, summed_in, quarter_with}
+use Rattle.settling.specs.History.{Near, summed, quarter_by}
 use Rattle.settling.proofs.Totals.{near_size, kept, nearer}
 use Rattle.settling.proofs.sums.quarter_of.Given as given
 use Rattle.settling.proofs.sums.quarter_of.Goals as goal
@@ -34,17 +34,17 @@ returns-in-Ok g c =
     let fl = c.ranges.l in
     let fc = c.ranges.c in
     let fs : SFits w64 c.sum_over.result = search rules in
-    let sums : ℕ → ℤ = summed_in c.args.curves.now in
+    let held = (g.S.Store.model c.args.store.now).look c.args.number in
     let R = g.R.Rulebook.rules c.args.rules.now in
     let dir = c.args.order.direction in
     let b = simp to_z-of_z at c.baseline.ensures in
-    let r : answered R c.args.resource.choice (direction_number dir) (sums c.args.quarter) c.args.l c.args.c ≡ Ok c.in-Ok.baseline =
-    ap (λ (k : ℕ). answered R c.args.resource.choice k (sums c.args.quarter) c.args.l c.args.c) (sym c.direction_number.ensures)
+    let r : answered R c.args.resource.choice (direction_number dir) (summed held c.args.days.now c.args.quarter) c.args.l c.args.c ≡ Ok c.in-Ok.baseline =
+    ap (λ (k : ℕ). answered R c.args.resource.choice k (summed held c.args.days.now c.args.quarter) c.args.l c.args.c) (sym c.direction_number.ensures)
     ∙ (ap (λ (z : ℤ). answered R c.args.resource.choice c.direction_number.result z c.args.l c.args.c) (sym c.sum_over.ensures.value)
     ∙ (sym b ∙ c.in-Ok.is)) in
     let w : c.toward.result ≡ toward dir (c.worth_at.result -ℤ c.in-Ok.baseline) = c.toward.ensures.value ∙ ap (toward dir) (omega (arith, ints)) in
     let w2 = w ∙ ap (λ (z : ℤ). toward dir (z -ℤ c.in-Ok.baseline)) c.worth_at.ensures.value in
-    let x : quarter_with R sums c.args.order c.args.number c.args.resource c.args.curve.now c.args.l c.args.c c.args.quarter ≡ Ok c.toward.result =
+    let x : quarter_by R held c.args.order c.args.number c.args.resource c.args.days.now c.args.curve.now c.args.l c.args.c c.args.quarter ≡ Ok c.toward.result =
     ap (λ (v : Result ℤ RuleFault). ruled_at c.args.number c.args.quarter v >>= (λ b. Ok (toward dir (worth (at c.args.curve.now c.args.quarter) -ℤ b)))) r ∙ ap (λ (z : ℤ). Ok z) (sym w2) in
     let n = c.toward.ensures.within in
     let k = kept c.toward.result (nearer _ n) in

@@ -1,6 +1,6 @@
-use Rattle.std.proofs.Common.{◌≡◌, ◌*◌, take}
-use Rattle.settling.specs.History.{Near, summed_in}
+use Rattle.std.proofs.Common.{◌≡◌, ℕ, ◌*◌, take}
+use Rattle.settling.specs.History.{Near, summed}
 use Rattle.settling.proofs.sums.sum_over.Given as goal
 
-abbrev pub invariant-loop-curve : goal.invariant-loop-curve
-invariant-loop-curve l = (l.sum ≡ summed_in (take l.curve-index l.curves) l.quarter) × Near (1000000 * l.curve-index) l.sum
+abbrev pub invariant-loop-day : goal.invariant-loop-day
+invariant-loop-day g l = (l.sum ≡ summed ((g.S.Store.model l.store).look l.resource) (take l.day-index l.days) l.quarter) × Near (1000000 * l.day-index) l.sum

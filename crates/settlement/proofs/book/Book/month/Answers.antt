@@ -18,7 +18,7 @@ returns g c =
     let y = c.args.year in
     let m = c.args.month in
     let fit = and_from (leb (length os) 128) _ (le-leb (length os) 128 c.as_slice.ensures.room) (all_modest os (ap are_standing c.as_slice.ensures.held ∙ c.args.self.now.standing)) in
-    c.month_figures.ensures
+    c.month_in.ensures
     ∙ (ap (λ (b : Bool). unless (not b) Number >>= (λ _. month_from t os ds y m)) fit
     ∙ (ap (λ (bs : List Booked). month_from t bs ds y m) c.as_slice.ensures.held
     ∙ ap (λ (xs : List Declaration). month_from t (orders_held c.args.self.now.orders) xs y m) c.as_slice-2.ensures.held))

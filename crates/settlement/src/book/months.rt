@@ -7,7 +7,7 @@ use crate::book::Book;
 use ledger::fault::BookFault;
 use ledger::records::Month;
 use monthly::line::write_line;
-use monthly::month::month_figures;
+use monthly::month::month_in;
 use rulebooks::Rulebook;
 use stores::store::Store;
 
@@ -15,7 +15,7 @@ impl<S: Store + Drop, R: Rulebook + Drop> Book<S, R> {
     pub fn month(&self, year: u32, month: u32) -> Result<Month, BookFault>
         ensures { result ≡ month_of (meaning S.Store.model R.Rulebook.rules self.now) year month }
     {
-        month_figures(
+        month_in(
             &self.terms,
             self.orders.as_slice(),
             self.declarations.as_slice(),
