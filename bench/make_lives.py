@@ -9,7 +9,7 @@ import os
 import random
 import sys
 
-import imports
+import make_imports as imports
 
 D0 = datetime.date(2000, 1, 1)
 LAST = 36524
