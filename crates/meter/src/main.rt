@@ -13,7 +13,7 @@ of injected minus drawn energy, its lowest and highest quarter and the quarters 
 An export that is not well formed is refused: the refusal is printed with its number, line and column
 and whose matter it is, and the program ends with status 1.";
 
-// False where the export is refused.
+// False where the export is refused or its file cannot be read.
 fn run(rt: &HostRuntime) -> anyhow::Result<bool> {
     match source::request(rt)? {
         source::Asked::Help => {
@@ -21,10 +21,10 @@ fn run(rt: &HostRuntime) -> anyhow::Result<bool> {
             Ok(true)
         }
         source::Asked::Input => report::export(rt, source::from_input(rt)?.as_slice()),
-        source::Asked::File(path) => report::export(
-            rt,
-            source::from_file(rt, path.as_str())?.as_slice(),
-        ),
+        source::Asked::File(path) => match source::from_file(rt, path.as_str())? {
+            Some(bytes) => report::export(rt, bytes.as_slice()),
+            None => Ok(false),
+        },
     }
 }
 

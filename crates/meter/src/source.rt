@@ -34,9 +34,13 @@ pub fn from_input(rt: &HostRuntime) -> anyhow::Result<Vec<u8>> {
     Ok(bytes)
 }
 
-pub fn from_file(rt: &HostRuntime, path: &str) -> anyhow::Result<Vec<u8>> {
+// Nothing where the file cannot be read, which is told here: an error keeps a text only in part.
+pub fn from_file(rt: &HostRuntime, path: &str) -> anyhow::Result<Option<Vec<u8>>> {
     match fs::read(rt, path) {
-        Ok(bytes) => Ok(bytes),
-        Err(e) => Err(anyhow!("{path} cannot be read: {e}")),
+        Ok(bytes) => Ok(Some(bytes)),
+        Err(e) => {
+            eprintln!(rt; "meter: {path} cannot be read: {e}")?;
+            Ok(None)
+        }
     }
 }

@@ -4,7 +4,6 @@
 mod report;
 mod source;
 
-use anyhow::anyhow;
 use lifefile::script::{At, read_script};
 use source::{Asked, Beside};
 use std::process::ExitCode;
@@ -40,34 +39,42 @@ that cannot be read or a store that finds no memory is reported on standard erro
 from that line on is run.
 Exit status: 0 where the life was run to its end, 1 where it was not.";
 
-fn replay(rt: &HostRuntime, life: &str, text: &str) -> anyhow::Result<()> {
+// False where the life is not run to its end.
+fn replay(rt: &HostRuntime, life: &str, text: &str) -> anyhow::Result<bool> {
     let script = read_script(rt.alloc(), &Beside { rt, life }, text);
     let mut out = String::new(rt.alloc());
     let flaw = report::run(rt.alloc(), &mut out, &script)?;
     print!(rt; "{out}")?;
     match flaw {
-        None => Ok(()),
-        Some(At { line, what }) => { Err(anyhow!("line {line}: {what}")) }
+        None => Ok(true),
+        Some(At { line, what }) => {
+            eprintln!(rt; "replay: line {line}: {what}")?;
+            Ok(false)
+        }
     }
 }
 
 // Several files are told apart by a line with their names.
-fn replay_all(rt: &HostRuntime, files: &[String]) -> anyhow::Result<()> {
+fn replay_all(rt: &HostRuntime, files: &[String]) -> anyhow::Result<bool> {
     for file in files {
         if files.len() > 1 {
             println!(rt; "# {file}")?;
         }
-        let text = source::from_file(rt, file.as_str())?;
-        replay(rt, file.as_str(), text.as_str())?;
+        let Some(text) = source::from_file(rt, file.as_str())? else {
+            return Ok(false);
+        };
+        if !replay(rt, file.as_str(), text.as_str())? {
+            return Ok(false);
+        }
     }
-    Ok(())
+    Ok(true)
 }
 
-fn run(rt: &HostRuntime) -> anyhow::Result<()> {
+fn run(rt: &HostRuntime) -> anyhow::Result<bool> {
     match source::request(rt)? {
         Asked::Help => {
             println!(rt; "{HELP}")?;
-            Ok(())
+            Ok(true)
         }
         Asked::Input => replay(rt, "", source::from_input(rt)?.as_str()),
         Asked::Files(files) => replay_all(rt, files.as_slice()),
@@ -76,7 +83,8 @@ fn run(rt: &HostRuntime) -> anyhow::Result<()> {
 
 fn main(rt: HostRuntime) -> anyhow::Result<ExitCode> {
     match run(&rt) {
-        Ok(()) => Ok(ExitCode::SUCCESS),
+        Ok(true) => Ok(ExitCode::SUCCESS),
+        Ok(false) => Ok(ExitCode::FAILURE),
         Err(e) => {
             eprintln!(rt; "replay: {e}")?;
             Ok(ExitCode::FAILURE)

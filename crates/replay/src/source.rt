@@ -1,5 +1,4 @@
 // What the program reads: a life file, and the meter exports beside it.
-use anyhow::anyhow;
 use lifefile::flaw::Flaw;
 use lifefile::script::Exports;
 use std::alloc::{AllocError, Global};
@@ -55,10 +54,14 @@ pub fn from_input(rt: &HostRuntime) -> anyhow::Result<String> {
     Ok(text_of(rt.alloc(), bytes.as_slice())?)
 }
 
-pub fn from_file(rt: &HostRuntime, path: &str) -> anyhow::Result<String> {
+// Nothing where the file cannot be read, which is told here: an error keeps a text only in part.
+pub fn from_file(rt: &HostRuntime, path: &str) -> anyhow::Result<Option<String>> {
     match fs::read(rt, path) {
-        Ok(bytes) => Ok(text_of(rt.alloc(), bytes.as_slice())?),
-        Err(e) => { Err(anyhow!("{path} cannot be read: {e}")) }
+        Ok(bytes) => Ok(Some(text_of(rt.alloc(), bytes.as_slice())?)),
+        Err(e) => {
+            eprintln!(rt; "replay: {path} cannot be read: {e}")?;
+            Ok(None)
+        }
     }
 }
 
