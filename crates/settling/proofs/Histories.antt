@@ -1,5 +1,5 @@
 -- One resource settled by its history.
-use Rattle.std.proofs.Common.{◌≡◌, ℕ, zero, suc, ◌<◌, ◌≤◌, Bool, true, false, List, [], ◌∷◌, length, get_or, take, ℤ, Ok, Err, Result, sym, refl, ap, ◌∙◌, subst, arith, w32, w64, to_z, of_z}
+use Rattle.std.proofs.Common.{◌≡◌, ℕ, zero, suc, ◌<◌, ◌≤◌, false, List, [], ◌∷◌, length, get_or, take, ℤ, Ok, Err, sym, refl, ap, ◌∙◌, arith, w32, w64, to_z, of_z}
 use Rattle.std.proofs.lemmas.List.{get_or-take}
 use Rattle.std.proofs.lemmas.Int.{ints}
 use Rattle.metering.specs.declared.curve.Curve.{Curve}
@@ -8,7 +8,7 @@ use Rattle.ledger.specs.declared.records.Order.{Order}
 use Rattle.ledger.specs.declared.records.Resource.{Resource}
 use Rattle.settling.specs.declared.parts.Settled.{Settled}
 use Rattle.ledger.specs.Words.{Granted, ◌>>=◌, ordered, total_of}
-use Rattle.ledger.specs.Settling.{Held, Part, by_history}
+use Rattle.ledger.specs.Settling.{Held, by_history}
 use Rattle.settling.specs.History.{Near, lead_summed, lead_sum, quarter_by}
 use Rattle.settling.specs.Evidence.{history_row, given}
 

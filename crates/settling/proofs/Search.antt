@@ -1,11 +1,10 @@
 -- The search for history days, on the lists of the definitions.
-use Rattle.std.proofs.Common.{◌≡◌, ℕ, zero, suc, ◌+◌, ◌-◌, ◌*◌, ◌<◌, ◌≤◌, Bool, true, false, cond, ◌&&◌, ltb, ◌≢◌, List, [], ◌∷◌, ◌++◌, length, get_or, take, set, Ok, Err, filter, Result, sym, refl, ap, ◌∙◌, subst, inl, inr, add-zero, add-one, arith}
+use Rattle.std.proofs.Common.{◌≡◌, ℕ, zero, suc, ◌+◌, ◌-◌, ◌<◌, ◌≤◌, Bool, true, false, cond, ◌&&◌, ltb, ◌≢◌, List, [], ◌∷◌, ◌++◌, length, get_or, take, set, Ok, Err, filter, sym, refl, ap, ◌∙◌, subst, inl, inr, add-zero, add-one, arith}
 use Rattle.std.proofs.lemmas.List.{take_more_set, append_assoc, append-nil, get_or-set_same, get_or-set_other}
 use Rattle.std.proofs.lemmas.Bool.{cases_lt, lt-ltb, le-ltb}
 use Rattle.metering.specs.declared.curve.Curve.{Curve}
 use Rattle.ledger.specs.declared.records.Order.{Order}
 use Rattle.ledger.specs.Words.{at, is_measured, measured_in, counting, days_before, lead, ordered}
-use Rattle.ledger.specs.declared.fault.BookFault.{BookFault}
 use Rattle.ledger.specs.declared.fault.BookFault.TheVariants.{ShortHistory}
 use Rattle.ledger.specs.Settling.{latest}
 use Rattle.settling.specs.History.{Placed, passing}

@@ -1,4 +1,4 @@
-use Rattle.std.proofs.Common.{◌≡◌, sym, ap, ◌∙◌}
+use Rattle.std.proofs.Common.{ap, ◌∙◌}
 use Rattle.ledger.specs.Words.{measured_in}
 use Rattle.settling.proofs.Search.{lead_ordered}
 use Rattle.settling.proofs.history.is_clean.Goals as goal

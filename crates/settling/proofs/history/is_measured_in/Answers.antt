@@ -1,6 +1,6 @@
-use Rattle.std.proofs.Common.{◌≡◌, ℕ, ◌+◌, ◌-◌, Bool, true, false, ◌&&◌, sym, ap, ◌∙◌, arith}
+use Rattle.std.proofs.Common.{◌≡◌, ◌+◌, ◌-◌, true, false, ◌&&◌, sym, ap, ◌∙◌, arith}
 use Rattle.ledger.specs.Words.{at, is_measured, measured_in, counting}
-use Rattle.settling.proofs.Search.{measured_more, measured_none}
+use Rattle.settling.proofs.Search.{measured_more}
 use Rattle.settling.proofs.history.is_measured_in.Goals as goal
 
 pub returns-then-not-is_measured : goal.returns-then-not-is_measured

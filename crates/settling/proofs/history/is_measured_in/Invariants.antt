@@ -1,4 +1,4 @@
-use Rattle.std.proofs.Common.{◌≡◌, ℕ, ◌-◌}
+use Rattle.std.proofs.Common.{◌≡◌, ◌-◌}
 use Rattle.ledger.specs.Words.{measured_in, counting}
 use Rattle.settling.proofs.history.is_measured_in.Given as goal
 

@@ -1,4 +1,4 @@
-use Rattle.std.proofs.Common.{◌≡◌, sym, ap, ◌∙◌, arith}
+use Rattle.std.proofs.Common.{sym, ◌∙◌, arith}
 use Rattle.settling.proofs.Search.{passing_yes, passing_no}
 use Rattle.settling.proofs.history.next_day.Goals as goal
 

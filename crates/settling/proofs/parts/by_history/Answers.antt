@@ -1,11 +1,11 @@
-use Rattle.std.proofs.Common.{◌≡◌, ℕ, Bool, true, false, List, ℤ, Ok, Err, Result, sym, refl, ap, ◌∙◌, subst, arith, w32, w64, SFits, to_z, of_z, rules}
+use Rattle.std.proofs.Common.{◌≡◌, false, List, ℤ, Ok, Err, sym, ap, ◌∙◌, subst, arith, w32, w64, SFits, to_z, of_z, rules}
 use Rattle.std.proofs.lemmas.Result.{err_from_is_err_and}
 use Rattle.std.proofs.lemmas.Int.{ints, to_z-of_z}
 use Rattle.ledger.specs.declared.fault.BookFault.{BookFault}
 use Rattle.settling.specs.declared.parts.Settled.{Settled}
-use Rattle.ledger.specs.Words.{Granted, ◌>>=◌, ordered, total_of}
+use Rattle.ledger.specs.Words.{Granted, ◌>>=◌}
 use Rattle.ledger.specs.Settling.{by_history}
-use Rattle.settling.specs.History.{Near, quarter_by}
+use Rattle.settling.specs.History.{Near}
 use Rattle.settling.specs.Evidence.{history_row, given}
 use Rattle.settling.proofs.Totals.{kept}
 use Rattle.settling.proofs.Histories.{narrowed, shown, history_is}

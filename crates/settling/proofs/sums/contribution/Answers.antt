@@ -1,9 +1,9 @@
-use Rattle.std.proofs.Common.{◌≡◌, ℕ, ◌+◌, ◌-◌, ◌*◌, ℤ, ◌+ℤ◌, Ok, Err, Result, sym, refl, ap, ◌∙◌, subst, arith, rules}
+use Rattle.std.proofs.Common.{◌≡◌, ℕ, ℤ, Ok, Err, sym, ap, ◌∙◌, arith}
 use Rattle.std.proofs.lemmas.Result.{err_from_is_err_and}
 use Rattle.std.proofs.lemmas.Int.{ints, to_z-of_z}
 use Rattle.ledger.specs.declared.fault.BookFault.{BookFault}
-use Rattle.ledger.specs.Words.{Granted, total_of, counting}
-use Rattle.settling.specs.History.{Near, quarter_by}
+use Rattle.ledger.specs.Words.{Granted}
+use Rattle.settling.specs.History.{quarter_by}
 use Rattle.settling.proofs.Totals.{grant_more, grant_break}
 use Rattle.settling.proofs.sums.contribution.Goals as goal
 

@@ -1,4 +1,4 @@
-use Rattle.std.proofs.Common.{◌≡◌, ℕ, ◌-◌, ◌*◌, Ok}
+use Rattle.std.proofs.Common.{◌≡◌, ◌-◌, ◌*◌, Ok}
 use Rattle.ledger.specs.Words.{total_of, counting}
 use Rattle.settling.specs.History.{Near, quarter_by}
 use Rattle.settling.proofs.sums.contribution.Given as goal

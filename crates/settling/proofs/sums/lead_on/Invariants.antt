@@ -1,4 +1,4 @@
-use Rattle.std.proofs.Common.{◌≡◌, ℕ, ◌-◌, ◌*◌}
+use Rattle.std.proofs.Common.{◌≡◌, ◌-◌, ◌*◌}
 use Rattle.ledger.specs.Words.{at, worth, total, counting}
 use Rattle.settling.specs.History.{Near}
 use Rattle.settling.proofs.sums.lead_on.Given as goal

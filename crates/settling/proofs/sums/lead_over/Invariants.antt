@@ -1,4 +1,4 @@
-use Rattle.std.proofs.Common.{◌≡◌, ℕ, ◌-◌, ◌*◌}
+use Rattle.std.proofs.Common.{◌≡◌, ◌-◌, ◌*◌}
 use Rattle.ledger.specs.Words.{total, counting}
 use Rattle.settling.specs.History.{Near, summed}
 use Rattle.settling.proofs.sums.lead_over.Given as goal

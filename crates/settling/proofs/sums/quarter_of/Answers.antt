@@ -1,9 +1,9 @@
-use Rattle.std.proofs.Common.{◌≡◌, ℕ, ℤ, ◌-ℤ◌, Ok, Err, Result, sym, refl, ap, ◌∙◌, subst, arith, w64, SFits, rules}
+use Rattle.std.proofs.Common.{◌≡◌, ℕ, ℤ, ◌-ℤ◌, Ok, Result, sym, ap, ◌∙◌, subst, arith, w64, SFits, rules}
 use Rattle.std.proofs.lemmas.Int.{ints, to_z-of_z}
 use Rattle.rulebooks.specs.declared.rule.RuleFault.{RuleFault}
 use Rattle.rulebooks.specs.Rules.{answered}
 use Rattle.rulebooks.specs.RuleLaws.{answer_within}
-use Rattle.ledger.specs.Words.{Granted, ◌>>=◌, at, worth, toward}
+use Rattle.ledger.specs.Words.{◌>>=◌, at, worth, toward}
 use Rattle.ledger.specs.Settling.{ruled_at, direction_number}
 use Rattle.settling.specs.History.{Near, summed, quarter_by}
 use Rattle.settling.proofs.Totals.{near_size, kept, nearer}

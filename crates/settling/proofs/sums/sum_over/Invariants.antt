@@ -1,4 +1,4 @@
-use Rattle.std.proofs.Common.{◌≡◌, ℕ, ◌*◌, take}
+use Rattle.std.proofs.Common.{◌≡◌, ◌*◌, take}
 use Rattle.settling.specs.History.{Near, summed}
 use Rattle.settling.proofs.sums.sum_over.Given as goal
 
