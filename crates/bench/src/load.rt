@@ -1,6 +1,6 @@
 // What is settled: 32 resources, 400 days of curves that vary, 128 orders on the last 26 days.
 use ledger::fault::BookFault;
-use ledger::terms::Terms;
+use ledger::terms::{Asked, Terms};
 use metering::curve::Curve;
 use metering::reading::Reading;
 use rulebooks::SuppliedRulebook;
@@ -34,7 +34,7 @@ pub fn place_of(number: u32) -> Place {
     }
 }
 
-fn is_ordered(day: u32, quarter: u32) -> bool {
+fn is_ordered(day: u32, quarter: usize) -> bool {
     day >= FIRST && quarter / 8 % 2 == 1
 }
 
@@ -53,16 +53,11 @@ fn reading_of(state: u32, ordered: bool) -> Reading {
 }
 
 pub fn curve_of(resource: u32, day: u32) -> Curve {
-    let mut curve = Curve::blank();
     let mut state = resource.wrapping_mul(40_503).wrapping_add(day);
-    for quarter in 0..96u32 {
+    Curve::from_fn(|quarter| {
         state = next_state(state);
-        curve.place(
-            quarter as usize,
-            reading_of(state, is_ordered(day, quarter)),
-        );
-    }
-    curve
+        reading_of(state, is_ordered(day, quarter))
+    })
 }
 
 fn pod_of(number: u8) -> [u8; 14] {
@@ -75,7 +70,15 @@ fn pod_of(number: u8) -> [u8; 14] {
 // All days, from quarter 8 to the end, 250 kW.
 fn terms_of() -> Result<Terms, BookFault> {
     let mut terms = Terms::new();
-    terms.fill(7, 8, 96, 250, 2_000, 50, &[])?;
+    terms.fill(&Asked {
+        kinds: 7,
+        w0: 8,
+        w1: 96,
+        qc: 250,
+        uf: 2_000,
+        af: 50,
+        feasts: &[],
+    })?;
     Ok(terms)
 }
 

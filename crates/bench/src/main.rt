@@ -14,17 +14,11 @@ a journal whose 12,800 rows are all used, and prints what each took: entering th
 the same questions put to the store alone. Each order looks at fifteen history days of each resource.
 On the ring the settling is done three times, each time in a new book, and the least is given.";
 
-fn is_asked(rt: &HostRuntime) -> anyhow::Result<bool> {
-    let mut args = env::args(rt)?;
-    let _ = args.next();
-    let Some(first) = args.next() else {
-        return Ok(false);
-    };
-    Ok(first.as_str() == "run")
-}
-
 fn run(rt: &HostRuntime) -> anyhow::Result<()> {
-    if is_asked(rt)? {
+    if env::args(rt)?
+        .nth(1)
+        .is_some_and(|word| word.as_str() == "run")
+    {
         timing::on_ring(rt)?;
         timing::on_journal(rt)?;
     } else {

@@ -5,15 +5,17 @@ use ledger::fault::BookFault;
 use std::time::Duration;
 
 pub fn tell_time(rt: &HostRuntime, name: &str, time: Duration) -> anyhow::Result<()> {
-    let seconds = time.as_secs();
-    let micros = time.subsec_micros();
-    println!(rt; "  {name:<28} {seconds}.{micros:06} s")?;
+    println!(rt;
+        "  {name:<28} {}.{:06} s",
+        time.as_secs(),
+        time.subsec_micros()
+    )?;
     Ok(())
 }
 
 pub fn tell_settled(rt: &HostRuntime, time: Duration, energy: u64) -> anyhow::Result<()> {
     tell_time(rt, "settling 128 orders", time)?;
-    let each = time.as_micros() / ORDERS as u128;
+    let each = time.as_micros() / u128::from(ORDERS);
     println!(rt; "  {each} microseconds an order, {energy} Wh remunerated")?;
     Ok(())
 }
@@ -26,11 +28,5 @@ pub fn tell_asked(rt: &HostRuntime, time: Duration, sum: u64) -> anyhow::Result<
 
 // The answer, or its refusal in words.
 pub fn allowed<T>(answer: Result<T, BookFault>) -> anyhow::Result<T> {
-    match answer {
-        Ok(value) => Ok(value),
-        Err(fault) => {
-            let number = fault.refusal().number;
-            Err(anyhow!("refused with {number}"))
-        }
-    }
+    answer.map_err(|fault| anyhow!("refused with {}", fault.refusal().number))
 }

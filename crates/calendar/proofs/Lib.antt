@@ -1,5 +1,6 @@
 mod Numbering
 mod YearForm
+mod Padded
 mod Promises
 mod Reading
 mod Figures

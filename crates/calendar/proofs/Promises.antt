@@ -1,11 +1,12 @@
 -- The laws of the calendar.
-use Rattle.std.proofs.Common.{◌≡◌, ℕ, ◌+◌, ◌-◌, ◌%◌, ◌<◌, ◌≤◌, Bool, true, false, cond, Some, None, sym, refl, ap, ◌∙◌, subst, add-one, arith}
+use Rattle.std.proofs.Common.{◌≡◌, ℕ, ◌+◌, ◌-◌, ◌/◌, ◌%◌, ◌<◌, ◌≤◌, Bool, true, false, cond, Some, None, sym, refl, ap, ◌∙◌, subst, add-one, arith}
 use Rattle.std.proofs.lemmas.Bool.Decides.{nat_tests}
 use Rattle.std.proofs.lemmas.Bool.{cond-true}
 use Rattle.calendar.specs.declared.dates.Date.{Date}
 use Rattle.calendar.specs.Gregorian.{month_length, months_days, years_days, first_day, last_day, day_number, next_date, date_after, is_month, is_date, is_day, day_of, date_of}
 use Rattle.calendar.specs.Weekdays.{Week}
 use Rattle.calendar.specs.Laws.{DayByDay, Undo, EveryDay, EveryDate, MonthDays, MonthsInARow}
+use Rattle.calendar.proofs.YearForm.{year_form}
 use Rattle.calendar.proofs.Numbering.{Valid, at, date_suc, date_at, undo_day, undo_date, century, date_from_lem, valid_from, first_month, first_year, length_from, length_to}
 
 pub some_from : {A : Type 0} (b : Bool) (x y : A) → cond b (Some y) None ≡ Some x → (b ≡ true) × (x ≡ y)
@@ -114,6 +115,36 @@ months_in_a_row = record {
   most = λ y m h. (omega (arith, end_of y m, length_to y m), inside y m (known y m h));
 }
 
+-- the month after a month
+pub next_in_year : (y m : ℕ) → is_month y m ≡ true → m < 12 → is_month y (m + 1) ≡ true
+next_in_year y m h l = grind (arith, nat_tests)
+
+pub first_in_year : (y m : ℕ) → is_month y m ≡ true → m < 12 → first_day y (m + 1) ≡ last_day y m + 1
+first_in_year = months_in_a_row.in_year
+
+pub next_year : (y m : ℕ) → is_month y m ≡ true → 12 ≤ m → last_day y m < 36524 → is_month (y + 1) 1 ≡ true
+next_year y m h l e =
+    let k = known y m h in
+    let f = ap (last_day y) (let d : m ≡ 12 = omega arith in d) in
+    let g : (y ≡ 2099 → ⊥) = λ d. let x = ap (λ z. last_day z 12) d in omega (arith, f, x, last_of_all) in
+    let s : y < 2099 = omega arith in
+    grind (arith, nat_tests)
+
+pub first_of_year : (y m : ℕ) → is_month y m ≡ true → 12 ≤ m → first_day (y + 1) 1 ≡ last_day y m + 1
+first_of_year y m h l =
+    let d : m ≡ 12 = let k = known y m h in omega arith in
+    first_year y (known y m h).from ∙ end_of y 12 ∙ ap (λ z. last_day y z + 1) (sym d)
+
+pub ends_later : (y m : ℕ) → is_month y m ≡ true → first_day y m ≤ last_day y m
+ends_later y m h = omega (arith, months_in_a_row.least y m h)
+
+-- where the search for a day's month begins
+pub begun_known : (d : ℕ) → d ≤ 36524 → is_month (2000 + d / 366) 1 ≡ true
+begun_known d h = grind (arith, nat_tests)
+
+pub begun_before : (d : ℕ) → d ≤ 36524 → first_day (2000 + d / 366) 1 ≤ d
+begun_before d h = omega (arith, year_form (2000 + d / 366) (omega arith) (omega arith))
+
 day_zero : day_of (at 2000 1 1) ≡ Some 0
 unfolding day_number first_day years_days months_days
 day_zero = refl
@@ -128,3 +159,12 @@ week = record {
   others = λ d a b. grind (arith, nat_tests);
   again = λ d. rw seven refl;
 }
+
+-- what each call's laws and loops rest on
+pub ruleset of_days = (undo, every_date)
+
+pub ruleset of_dates = (day_by_day, undo, every_day, begun_known, begun_before, ends_later, month_days)
+
+pub ruleset of_next = (next_in_year, next_year, first_in_year, first_of_year)
+
+pub ruleset of_months = (months_in_a_row, month_days)

@@ -1,11 +1,12 @@
 -- What is written of a date is read, and nothing else.
-use Rattle.std.proofs.Common.{◌≡◌, ℕ, ◌+◌, ◌-◌, ◌*◌, ◌/◌, ◌%◌, ◌<◌, ◌≤◌, Bool, true, false, ◌&&◌, T, List, [], ◌∷◌, length, get_or, Some, None, sym, refl, ap, ◌∙◌, subst, arith, eqb→eq}
+use Rattle.std.proofs.Common.{◌≡◌, ℕ, ◌+◌, ◌-◌, ◌*◌, ◌/◌, ◌%◌, ◌<◌, ◌≤◌, Bool, true, false, cond, ◌&&◌, T, List, [], ◌∷◌, length, get_or, Some, None, sym, refl, ap, ◌∙◌, subst, arith, eqb→eq}
+use Rattle.std.specs.Bool.{then_some}
 use Rattle.std.proofs.lemmas.Bool.Decides.{nat_tests}
 use Rattle.std.proofs.lemmas.List.FromFn.{fill_by_all}
 use Rattle.std.proofs.lemmas.Fmt.{decimal_digit}
 use Rattle.calendar.specs.declared.dates.Date.{Date}
 use Rattle.calendar.specs.Gregorian.{is_date}
-use Rattle.calendar.specs.DateText.{date_text, is_digit, is_hyphen, is_shaped, two_digits, written_date, date_from, ReadBack, ReadOnly}
+use Rattle.calendar.specs.DateText.{date_text, is_digit, is_hyphen, is_shaped, two_digits, written_date, date_from, ReadBack}
 use Rattle.calendar.proofs.Numbering.{at, valid_from, length_to}
 use Rattle.calendar.proofs.Promises.{some_from}
 
@@ -24,7 +25,7 @@ shaped_ten : (x : Date) → x.year < 10000 → x.month < 100 → x.day < 100 →
 unfolding ten_bytes
 shaped_ten x y m d = grind (arith, nat_tests)
 
-same_date : (a b c a' b' c' : ℕ) → a ≡ a' → b ≡ b' → c ≡ c' → at a b c ≡ at a' b' c'
+pub same_date : (a b c a' b' c' : ℕ) → a ≡ a' → b ≡ b' → c ≡ c' → at a b c ≡ at a' b' c'
 same_date a b c a' b' c' p q r = cc
 
 written_ten : (x : Date) → written_date (ten_bytes x) ≡ x
@@ -128,20 +129,36 @@ bytes_are t s =
     let e9 : 48 + two_digits t 8 % 10 ≡ get_or t 9 0 = omega arith in
     rw (e0, e1, e2, e3, e5, e6, e8, e9, s.hyphens.0, s.hyphens.1) refl
 
-pub read_only : ReadOnly
-read_only t x h =
+pub only_dates : (t : List ℕ) (x : Date) → date_from t ≡ Some x → is_date x ≡ true
+only_dates t x h =
     let s = some_from (is_shaped t && is_date (written_date t)) x (written_date t) h in
-    let b = both (is_shaped t) (is_date (written_date t)) s.0 in
-    let d : is_date x ≡ true = ap is_date s.1 ∙ b.1 in
-    let k = shaped t b.0 in
-    let l = small x d in
-    (d, ten t k.ten ∙ sym (bytes_are t k) ∙ ap ten_bytes (sym s.1) ∙ sym (text_is x l.year l.month l.day))
+    ap is_date s.1 ∙ (both (is_shaped t) (is_date (written_date t)) s.0).1
+
+pub only_texts : (t : List ℕ) (x : Date) → date_from t ≡ Some x → t ≡ date_text x
+only_texts t x h =
+    let s = some_from (is_shaped t && is_date (written_date t)) x (written_date t) h in
+    let k = shaped t (both (is_shaped t) (is_date (written_date t)) s.0).0 in
+    let l = small x (only_dates t x h) in
+    ten t k.ten ∙ sym (bytes_are t k) ∙ ap ten_bytes (sym s.1) ∙ sym (text_is x l.year l.month l.day)
 
 -- the three ways that a text is answered
-pub unshaped : (t : List ℕ) → is_shaped t ≡ false → date_from t ≡ None
-unshaped t h = rw h refl
+then_cond : {A : Type 0} (b : Bool) (x : A) → then_some b x ≡ cond b (Some x) None
+then_cond true x = refl
+then_cond false x = refl
 
-pub no_date : (t : List ℕ) (x : Date) → is_shaped t ≡ true → written_date t ≡ x → is_date x ≡ false → date_from t ≡ None
-no_date t x s e h =
-    let d : is_date (written_date t) ≡ false = ap is_date e ∙ h in
-    rw (s, d) refl
+pub read_as : (t : List ℕ) (x : Date) → is_shaped t ≡ true → written_date t ≡ x → then_some (is_date x) x ≡ date_from t
+read_as t x s e = rw (s, e) (then_cond (is_date x) x)
+
+pub shaped_by : (t : List ℕ) → length t ≡ 10 → get_or t 4 0 ≡ 45 → get_or t 7 0 ≡ 45
+    → (is_digit (get_or t 0 0) && is_digit (get_or t 1 0)) ≡ true → (is_digit (get_or t 2 0) && is_digit (get_or t 3 0)) ≡ true
+    → (is_digit (get_or t 5 0) && is_digit (get_or t 6 0)) ≡ true → (is_digit (get_or t 8 0) && is_digit (get_or t 9 0)) ≡ true
+    → is_shaped t ≡ true
+shaped_by t l h g a b c d = grind (arith, nat_tests)
+
+pub unhyphened_4 : (t : List ℕ) → (get_or t 4 0 ≡ 45 → ⊥) → None ≡ date_from t
+unhyphened_4 t h = grind (arith, nat_tests)
+
+pub unhyphened_7 : (t : List ℕ) → (get_or t 7 0 ≡ 45 → ⊥) → None ≡ date_from t
+unhyphened_7 t h = grind (arith, nat_tests)
+
+pub ruleset of_texts = (read_back, only_dates, only_texts)

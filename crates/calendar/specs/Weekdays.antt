@@ -1,5 +1,7 @@
 -- The kind that a day has by its weekday. Kinds are numbers that can be added: 1 a working day, 2 a Saturday, 4 a Sunday.
 use Rattle.std.specs.Prelude.{◌≡◌, ℕ, ◌+◌, ◌%◌, ◌≤◌, cond, Some, ◌==◌}
+use Rattle.calendar.specs.declared.weekdays.DayKind.{DayKind}
+use Rattle.calendar.specs.declared.weekdays.DayKind.TheVariants.{Working, Saturday, Sunday}
 use Rattle.calendar.specs.Gregorian.{day_of}
 
 abbrev pub working : ℕ
@@ -10,6 +12,11 @@ saturday = 2
 
 abbrev pub sunday : ℕ
 sunday = 4
+
+abbrev pub number_of : DayKind → ℕ
+number_of Working = working
+number_of Saturday = saturday
+number_of Sunday = sunday
 
 -- day 0 is a Saturday and day 1 a Sunday
 abbrev pub weekday_kind : ℕ → ℕ

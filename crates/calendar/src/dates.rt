@@ -3,7 +3,7 @@ ghost use Rattle.std.specs.Prelude.{◌≡◌};
 ghost use Rattle.calendar.specs.Gregorian.{is_day, is_date, day_of, date_of};
 ghost use Rattle.calendar.specs.Laws.{DayByDay, Undo, EveryDay, EveryDate};
 
-use crate::months::{FIRST_YEAR, is_month, month_length, start};
+use crate::months::{FIRST_YEAR, Month};
 
 #[derive(Clone, Copy, PartialEq, Eq, Debug)]
 pub struct Date {
@@ -23,24 +23,23 @@ pub fn is_day(day: u32) -> bool
 pub(crate) fn is_date(date: Date) -> bool
     ensures { result ≡ is_date date }
 {
-    is_month(date.year, date.month)
-        && 1 <= date.day
-        && date.day <= month_length(date.year, date.month)
+    day_of(date).is_some()
 }
 
+#[tactic(auto, using(crate::proofs::Promises::of_days), unfolding(crate::specs::Gregorian::day_number))]
 pub fn day_of(date: Date) -> Option<u32>
     ensures value { result ≡ day_of date }
     ensures undo { Undo }
     ensures every { EveryDate }
 {
-    if is_date(date) {
-        Some(start(date.year, date.month) + (date.day - 1))
-    } else {
-        None
+    let month = Month::new(date.year, date.month)?;
+    if !(1..=month.length()).contains(&date.day) {
+        return None;
     }
+    Some(month.first_day() + (date.day - 1))
 }
 
-// Takes away the lengths of whole months until what is left lies in one.
+#[tactic(auto, using(crate::proofs::Promises::of_dates))]
 pub fn date_of(day: u32) -> Option<Date>
     ensures value { result ≡ date_of day }
     ensures days { DayByDay }
@@ -50,24 +49,17 @@ pub fn date_of(day: u32) -> Option<Date>
     if !is_day(day) {
         return None;
     }
-    let mut year = FIRST_YEAR;
-    let mut month = 1;
-    let mut rest = day;
-    loop {
-        let length = month_length(year, month);
-        if rest < length {
-            return Some(Date {
-                year,
-                month,
-                day: rest + 1,
-            });
-        }
-        rest -= length;
-        if month == 12 {
-            year += 1;
-            month = 1;
-        } else {
-            month += 1;
-        }
+    // A year has at most 366 days, so the day is in this month or in one of the next.
+    let mut month = Month {
+        year: FIRST_YEAR + day / 366,
+        month: 1,
+    };
+    while month.last_day() < day {
+        month = month.next();
     }
+    Some(Date {
+        year: month.year,
+        month: month.month,
+        day: day - month.first_day() + 1,
+    })
 }

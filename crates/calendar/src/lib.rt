@@ -9,4 +9,4 @@ mod weekdays;
 pub use dates::{Date, date_of, day_of, is_day};
 pub use months::{first_day, last_day};
 pub use text::parse_date;
-pub use weekdays::{SATURDAY, SUNDAY, WORKING, weekday_kind};
+pub use weekdays::{DayKind, weekday_kind};

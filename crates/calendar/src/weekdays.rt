@@ -1,20 +1,31 @@
-// The kind that a day has by its weekday: 1 a working day, 2 a Saturday, 4 a Sunday.
+// The kind that a day has by its weekday.
 ghost use Rattle.std.specs.Prelude.{◌≡◌};
-ghost use Rattle.calendar.specs.Weekdays.{weekday_kind, Week};
+ghost use Rattle.calendar.specs.Weekdays.{number_of, weekday_kind, Week};
 
-pub const WORKING: u8 = 1;
+// Kinds have numbers that can be added.
+#[derive(Clone, Copy, PartialEq, Eq, Debug)]
+pub enum DayKind {
+    Working = 1,
+    Saturday = 2,
+    Sunday = 4,
+}
 
-pub const SATURDAY: u8 = 2;
+impl DayKind {
+    pub fn number(self) -> u8
+        ensures { result ≡ number_of self }
+    {
+        self as u8
+    }
+}
 
-pub const SUNDAY: u8 = 4;
-
-pub fn weekday_kind(day: u32) -> u8
-    ensures value { result ≡ weekday_kind day }
+#[tactic(auto, using(crate::proofs::Promises::week))]
+pub fn weekday_kind(day: u32) -> DayKind
+    ensures value { number_of result ≡ weekday_kind day }
     ensures week { Week }
 {
     match day % 7 {
-        0 => SATURDAY,
-        1 => SUNDAY,
-        _ => WORKING,
+        0 => DayKind::Saturday,
+        1 => DayKind::Sunday,
+        _ => DayKind::Working,
     }
 }

@@ -1,7 +1,5 @@
 // The first and last days, the ends of February, and what lies outside.
-use calendar::{
-    Date, SATURDAY, SUNDAY, WORKING, date_of, day_of, first_day, is_day, last_day, weekday_kind,
-};
+use calendar::{Date, DayKind, date_of, day_of, first_day, is_day, last_day, weekday_kind};
 
 fn on(year: u32, month: u32, day: u32) -> Date {
     Date { year, month, day }
@@ -45,9 +43,9 @@ fn june_2026(rt: HostRuntime) {
     assert_eq!(rt; date_of(9649), Some(on(2026, 6, 2)));
     assert_eq!(rt; first_day(2026, 6), Some(9648));
     assert_eq!(rt; last_day(2026, 6), Some(9677));
-    assert_eq!(rt; weekday_kind(9675), SUNDAY);
-    assert_eq!(rt; weekday_kind(9674), SATURDAY);
-    assert_eq!(rt; weekday_kind(9649), WORKING);
+    assert_eq!(rt; weekday_kind(9675), DayKind::Sunday);
+    assert_eq!(rt; weekday_kind(9674), DayKind::Saturday);
+    assert_eq!(rt; weekday_kind(9649), DayKind::Working);
 }
 
 #[test]
@@ -62,8 +60,8 @@ fn months_outside(rt: HostRuntime) {
 
 #[test]
 fn weekdays_past_the_range(rt: HostRuntime) {
-    assert_eq!(rt; weekday_kind(0), SATURDAY);
-    assert_eq!(rt; weekday_kind(1), SUNDAY);
-    assert_eq!(rt; weekday_kind(6), WORKING);
-    assert_eq!(rt; weekday_kind(u32::MAX), WORKING);
+    assert_eq!(rt; weekday_kind(0), DayKind::Saturday);
+    assert_eq!(rt; weekday_kind(1), DayKind::Sunday);
+    assert_eq!(rt; weekday_kind(6), DayKind::Working);
+    assert_eq!(rt; weekday_kind(u32::MAX), DayKind::Working);
 }

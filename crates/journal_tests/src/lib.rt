@@ -26,21 +26,12 @@ mod tests {
 
     // The byte at a place of a journal's memory; 255 past its end.
     fn byte(journal: &Journal, at: usize) -> u8 {
-        let memory = journal.memory();
-        if at < memory.len() { memory[at] } else { 255 }
+        journal.memory().get(at).copied().unwrap_or(255)
     }
 
     fn zeros(journal: &Journal, from: usize) -> bool {
-        let memory = journal.memory();
-        if from > memory.len() {
-            return false;
-        }
-        for at in from..memory.len() {
-            if memory[at] != 0 {
-                return false;
-            }
-        }
-        true
+        let rest = journal.memory().get(from..);
+        rest.is_some_and(|bytes| bytes.iter().all(|byte| *byte == 0))
     }
 
     #[test]

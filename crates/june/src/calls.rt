@@ -9,16 +9,10 @@ const TUESDAY: u32 = 9_677;
 
 // A day of one reading but for the ordered quarters.
 fn curve_of(usual: i32, ordered: i32) -> Curve {
-    let mut curve = Curve::blank();
-    for quarter in 0..96usize {
-        let wh = if 44 <= quarter && quarter < 48 {
-            ordered
-        } else {
-            usual
-        };
-        curve.place(quarter, Reading::Measured(wh));
-    }
-    curve
+    Curve::from_fn(|quarter| match quarter {
+        44..48 => Reading::Measured(ordered),
+        _ => Reading::Measured(usual),
+    })
 }
 
 pub fn life_of_june(heap: Global) -> Result<Vec<Call>, AllocError> {

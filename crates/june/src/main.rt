@@ -4,10 +4,10 @@
 mod calls;
 mod report;
 
-use anyhow::anyhow;
+use anyhow::bail;
 use calls::life_of_june;
 use ledger::life::{Answer, Call};
-use ledger::terms::Terms;
+use ledger::terms::{Asked, Terms};
 use rulebooks::SuppliedRulebook;
 use settlement::live::live;
 use stores::journal::Journal;
@@ -26,7 +26,7 @@ fn run(rt: &HostRuntime, terms: Terms, calls: &[Call]) -> anyhow::Result<()> {
         answers.as_mut_slice(),
     );
     if life.refused.is_some() {
-        return Err(anyhow!("there is no room for the answers"));
+        bail!("there is no room for the answers");
     }
     println!(rt; "working days, 10:00 to 18:00, QC 20 kW, UF 0,2000, AF 0,0050, feast 2026-06-02")?;
     report::tell_entered(rt, answers.as_slice())?;
@@ -39,8 +39,17 @@ fn run(rt: &HostRuntime, terms: Terms, calls: &[Call]) -> anyhow::Result<()> {
 fn main(rt: HostRuntime) -> anyhow::Result<()> {
     let mut terms = Terms::new();
     // working days, 10:00 to 18:00, 20 kW, 0.2000 EUR per kWh, 0.0050 EUR per kW and hour, the feast of 2 June
-    if terms.fill(1, 40, 72, 20, 2_000, 50, &[9_649]).is_err() {
-        return Err(anyhow!("the terms are refused"));
+    let asked = Asked {
+        kinds: 1,
+        w0: 40,
+        w1: 72,
+        qc: 20,
+        uf: 2_000,
+        af: 50,
+        feasts: &[9_649],
+    };
+    if terms.fill(&asked).is_err() {
+        bail!("the terms are refused");
     }
     let calls = life_of_june(rt.alloc())?;
     run(&rt, terms, calls.as_slice())

@@ -10,6 +10,7 @@ pub mod Figured
 pub mod Lined
 pub mod Refused
 pub mod Among
+pub mod DayBits
 pub mod Fitting
 pub mod Latest
 pub mod Evidence

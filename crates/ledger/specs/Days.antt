@@ -1,16 +1,13 @@
 -- Which days and quarters the terms speak of.
-use Rattle.std.specs.Prelude.{ℕ, ◌+◌, ◌*◌, ◌/◌, ◌%◌, Bool, false, cond, ◌&&◌, ◌||◌, List, [], ◌∷◌, take, ◌==◌, nat_le, nat_lt}
+use Rattle.std.specs.Prelude.{ℕ, ◌+◌, ◌*◌, ◌/◌, ◌%◌, Bool, false, cond, ◌&&◌, ◌||◌, List, [], ◌∷◌, ◌==◌, nat_le, nat_lt}
 use Rattle.calendar.specs.Weekdays.{weekday_kind, sunday}
+use Rattle.ledger.specs.Feasts.{is_among, days_of}
 use Rattle.ledger.specs.declared.terms.Terms.{Terms}
 use Rattle.ledger.specs.declared.records.Order.{Order}
 use Rattle.ledger.specs.declared.records.Declaration.{Declaration}
 
-abbrev pub is_among : List ℕ → ℕ → Bool
-is_among [] d = false
-is_among (x ∷ xs) d = x == d || is_among xs d
-
 abbrev pub feasts_of : Terms → List ℕ
-feasts_of t = take t.feast_count t.feasts
+feasts_of t = days_of t.feasts
 
 -- a feast has the kind of a Sunday alone
 abbrev pub kind_of : Terms → ℕ → ℕ

@@ -8,6 +8,7 @@ use Rattle.stores.specs.Model.{StoreModel, put_into}
 use Rattle.rulebooks.specs.Supplied.{supplied_rules}
 use Rattle.rulebooks.specs.Figures.{Figures as RuleFigures}
 use Rattle.ledger.specs.declared.fault.BookFault.TheVariants.{TooSoon, ShortHistory}
+use Rattle.ledger.specs.declared.feasts.Feasts.{Feasts}
 use Rattle.ledger.specs.declared.terms.Terms.{Terms}
 use Rattle.ledger.specs.declared.records.Direction.TheVariants.{Up}
 use Rattle.ledger.specs.declared.records.Order.{Order}
@@ -19,6 +20,16 @@ use Rattle.ledger.specs.Days.{rests_before}
 use Rattle.ledger.specs.Book.{Book, fresh, registered, booked, settlement}
 use Rattle.ledger.specs.Run.{run}
 
+abbrev pub no_feasts : Feasts
+no_feasts = record {
+  days = replicate 32 0;
+  count = 0;
+  table = refl;
+  room = omega arith;
+  in_range = λ k h. absurd (omega arith);
+  rising = λ k h. absurd (omega arith);
+}
+
 -- terms of some kinds of day, window 8 to 96, 0.2000 EUR per kWh, no feast
 abbrev pub terms_for : (kinds : ℕ) → 1 ≤ kinds → kinds ≤ 7 → Terms
 terms_for kinds low high = record {
@@ -28,8 +39,7 @@ terms_for kinds low high = record {
   qc = 20;
   uf = 2000;
   af = 50;
-  feasts = replicate 32 0;
-  feast_count = 0;
+  feasts = no_feasts;
   some_kind = low;
   known_kinds = high;
   leads = omega arith;
@@ -39,10 +49,6 @@ terms_for kinds low high = record {
   power_to = omega arith;
   energy_price = omega arith;
   power_price = omega arith;
-  table = refl;
-  feast_room = omega arith;
-  feast_days = λ k h. absurd (omega arith);
-  rising = λ k h. absurd (omega arith);
 }
 
 abbrev pub working : Terms

@@ -2,6 +2,7 @@
 use Rattle.std.specs.Prelude.{ℕ, ◌+◌, Bool, true, cond, not, ◌&&◌, List, [], ◌∷◌, length, nat_le, nat_lt}
 use Rattle.ledger.specs.declared.fault.BookFault.TheVariants.{Terms as TermsFault}
 use Rattle.ledger.specs.declared.terms.Terms.{Terms}
+use Rattle.ledger.specs.declared.terms.filling.Asked.{Asked}
 use Rattle.ledger.specs.Words.{Granted, unless}
 use Rattle.ledger.specs.Days.{feasts_of}
 
@@ -36,6 +37,13 @@ content kinds w0 w1 qc uf af feasts = record { kinds = kinds; w0 = w0; w1 = w1; 
 
 abbrev pub content_of : Terms → Content
 content_of t = content t.kinds t.w0 t.w1 t.qc t.uf t.af (feasts_of t)
+
+-- what is asked: whether it keeps every limit, and what terms then hold
+abbrev pub fits : Asked → Bool
+fits a = terms_fit a.kinds a.w0 a.w1 a.qc a.uf a.af a.feasts.now
+
+abbrev pub wanted : Asked → Content
+wanted a = content a.kinds a.w0 a.w1 a.qc a.uf a.af a.feasts.now
 
 -- the least terms: working days, the whole window, 1 kW, no prices and no feasts
 abbrev pub least_terms : Content

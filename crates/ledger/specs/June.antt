@@ -2,6 +2,7 @@
 use Rattle.std.specs.Prelude.{◌≡◌, ℕ, zero, suc, ◌<◌, ◌≤◌, [], ◌∷◌, ◌++◌, replicate, pos, Some, Ok, codes, slice_index, refl}
 use Rattle.std.proofs.Common.{arith}
 use Rattle.rulebooks.specs.Supplied.{supplied_rules}
+use Rattle.ledger.specs.declared.feasts.Feasts.{Feasts}
 use Rattle.ledger.specs.declared.terms.Terms.{Terms}
 use Rattle.ledger.specs.declared.records.Direction.TheVariants.{Up}
 use Rattle.ledger.specs.declared.records.Booked.{Booked}
@@ -14,6 +15,16 @@ pub one_feast : (k : ℕ) → k < 1 → slice_index (9649 ∷ replicate 31 0) k 
 one_feast zero h = omega arith
 one_feast (suc k) h = absurd (omega arith)
 
+abbrev pub second_of_june : Feasts
+second_of_june = record {
+  days = 9649 ∷ replicate 31 0;
+  count = 1;
+  table = refl;
+  room = omega arith;
+  in_range = one_feast;
+  rising = λ k h. absurd (omega arith);
+}
+
 -- working days, quarters 40 to 72, the feast of 2 June 2026
 abbrev pub summer : Terms
 summer = record {
@@ -23,8 +34,7 @@ summer = record {
   qc = 20;
   uf = 2000;
   af = 50;
-  feasts = 9649 ∷ replicate 31 0;
-  feast_count = 1;
+  feasts = second_of_june;
   some_kind = omega arith;
   known_kinds = omega arith;
   leads = omega arith;
@@ -34,10 +44,6 @@ summer = record {
   power_to = omega arith;
   energy_price = omega arith;
   power_price = omega arith;
-  table = refl;
-  feast_room = omega arith;
-  feast_days = one_feast;
-  rising = λ k h. absurd (omega arith);
 }
 
 abbrev pub in_june : Booked

@@ -1,5 +1,6 @@
 pub mod Refusals
 pub mod Words
+pub mod Feasts
 pub mod Days
 pub mod Filling
 pub mod Settling

@@ -1,39 +1,28 @@
 // Which days the terms speak of, and which have an order.
-ghost use Rattle.std.specs.Prelude.{◌≡◌, ◌≤◌};
-ghost use Rattle.ledger.specs.Days.{is_among, feasts_of, kind_of, has_kind, in_kinds};
+ghost use Rattle.std.specs.Prelude.{◌≡◌};
+ghost use Rattle.calendar.specs.Weekdays.{number_of};
+ghost use Rattle.ledger.specs.Days.{kind_of, has_kind, in_kinds};
 ghost use Rattle.ledger.specs.Book.{orders_in, busy_on};
 
 use crate::records::Booked;
 use crate::terms::Terms;
-use calendar::{SUNDAY, weekday_kind};
-
-fn is_feast(terms: &Terms, day: u32) -> bool
-    ensures { result ≡ is_among (feasts_of terms.now) day }
-{
-    for feast in &terms.feasts[..terms.feast_count] {
-        if *feast == day {
-            return true;
-        }
-    }
-    false
-}
+use calendar::{DayKind, weekday_kind};
 
 // A feast counts as a Sunday.
-fn kind_of(terms: &Terms, day: u32) -> u8
-    ensures kind { result ≡ kind_of terms.now day }
-    ensures some { 1 ≤ result }
+fn kind_of(terms: &Terms, day: u32) -> DayKind
+    ensures { number_of result ≡ kind_of terms.now day }
 {
-    if is_feast(terms, day) {
-        return SUNDAY;
+    if terms.feasts.contains(day) {
+        DayKind::Sunday
+    } else {
+        weekday_kind(day)
     }
-    weekday_kind(day)
 }
 
-fn has_kind(kinds: u8, kind: u8) -> bool
-    requires { 1 ≤ kind }
-    ensures { result ≡ has_kind kinds kind }
+fn has_kind(kinds: u8, kind: DayKind) -> bool
+    ensures { result ≡ has_kind kinds (number_of kind) }
 {
-    kinds / kind % 2 == 1
+    kinds & kind.number() != 0
 }
 
 pub fn in_kinds(terms: &Terms, day: u32) -> bool
@@ -45,10 +34,5 @@ pub fn in_kinds(terms: &Terms, day: u32) -> bool
 pub fn is_busy(orders: &[Booked], day: u32) -> bool
     ensures { result ≡ busy_on (orders_in orders.now) day }
 {
-    for booked in orders {
-        if booked.order.day == day {
-            return true;
-        }
-    }
-    false
+    orders.iter().any(|booked| booked.order.day == day)
 }

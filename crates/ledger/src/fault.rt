@@ -59,12 +59,7 @@ impl From<StoreFault> for BookFault {
 fn own(number: u8, first: u32, second: u32) -> Refusal
     ensures { result ≡ own_refusal number first second }
 {
-    Refusal {
-        number,
-        layer: Layer::Book,
-        first,
-        second,
-    }
+    Refusal::new(number, Layer::Book, first, second)
 }
 
 // A refusal of the rulebook; where a rule gives no baseline, at the resource and quarter that it was asked for.
@@ -75,10 +70,9 @@ fn ruled(resource: u32, quarter: u32, fault: RuleFault) -> Refusal
     match fault {
         RuleFault::OutOfRange | RuleFault::UnknownChoice => below,
         RuleFault::NoBaseline => Refusal {
-            number: below.number,
-            layer: below.layer,
             first: resource,
             second: quarter,
+            ..below
         },
     }
 }

@@ -6,20 +6,16 @@ ghost use Rattle.ledger.specs.Lives.{TwoLives, Bounds, MeanGuaranteed};
 
 // Whole lives: a pool that goes further in the ordered direction is never paid less; bounds; the unadjusted mean;
 // which days stand behind an order; what pay and months keep to.
-pub fn laws_stand() -> u8
+pub fn laws_stand()
     ensures lives { TwoLives }
     ensures bounds { Bounds }
     ensures mean { MeanGuaranteed }
     ensures history { History }
     ensures pay { PayBounded }
     ensures months { MonthApart }
-{
-    0
-}
+{}
 
-pub fn figures_stand() -> u8
+pub fn figures_stand()
     ensures book { BookFigures }
     ensures june { JuneFigures }
-{
-    0
-}
+{}

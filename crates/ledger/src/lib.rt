@@ -3,6 +3,7 @@
 
 pub mod days;
 pub mod fault;
+pub mod feasts;
 pub mod laws;
 pub mod life;
 pub mod records;

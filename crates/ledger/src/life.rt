@@ -3,6 +3,7 @@ use crate::fault::BookFault;
 use crate::records::{Month, Outcome};
 use metering::curve::Curve;
 
+// Its numbers are any that may be asked: the call refuses what it has no use for.
 #[derive(Drop)]
 pub enum Call {
     Register {

@@ -1,21 +1,54 @@
 // What a book keeps: resources, orders with their results, declarations.
+ghost use Rattle.std.specs.Prelude.{◌≡◌, ◌<◌, ◌≤◌, MatchResult};
+ghost use Rattle.ledger.specs.declared.fault.BookFault.TheVariants.{Number};
+ghost use Rattle.ledger.specs.Book.{direction_of};
+ghost use Rattle.ledger.specs.Settling.{direction_number};
+
+use crate::fault::BookFault;
 
 // One hotel's pools: its metering point, its choice of rule and its available power in kW.
-#[derive(Clone, Copy, PartialEq, Eq, Debug)]
+#[derive(Clone, Copy, PartialEq, Eq, Debug, Default)]
 pub struct Resource {
     pub pod: [u8; 14],
     pub choice: u8,
     pub power: u32,
 }
 
-#[derive(Clone, Copy, PartialEq, Eq, Debug)]
+#[derive(Clone, Copy, PartialEq, Eq, Debug, Default)]
 pub enum Direction {
+    #[default]
     Up,
     Down,
 }
 
+// A direction is told to a book as 0, upward, or 1, downward.
+impl TryFrom<u32> for Direction {
+    type Error = BookFault;
+
+    ghost try_from_gives = { λ n r. MatchResult r (λ d. (n ≤ 1) × (d ≡ direction_of n)) (λ e. (1 < n) × (e ≡ Number)) };
+
+    fn try_from(number: u32) -> Result<Direction, BookFault> {
+        match number {
+            0 => Ok(Direction::Up),
+            1 => Ok(Direction::Down),
+            _ => Err(BookFault::Number),
+        }
+    }
+}
+
+impl From<Direction> for u8 {
+    ghost from_gives = { λ d n. n ≡ direction_number d };
+
+    fn from(direction: Direction) -> u8 {
+        match direction {
+            Direction::Up => 0,
+            Direction::Down => 1,
+        }
+    }
+}
+
 // Quarters q0 to q1 of a day, q1 excluded; ordered power in kW.
-#[derive(Clone, Copy, PartialEq, Eq, Debug)]
+#[derive(Clone, Copy, PartialEq, Eq, Debug, Default)]
 pub struct Order {
     pub day: u32,
     pub q0: u32,
@@ -36,14 +69,14 @@ pub struct Outcome {
     pub pay: u64,
 }
 
-#[derive(Clone, Copy, PartialEq, Eq, Debug)]
+#[derive(Clone, Copy, PartialEq, Eq, Debug, Default)]
 pub struct Booked {
     pub order: Order,
     pub result: Option<Outcome>,
 }
 
 // Quarters in which the aggregate is not available.
-#[derive(Clone, Copy, PartialEq, Eq, Debug)]
+#[derive(Clone, Copy, PartialEq, Eq, Debug, Default)]
 pub struct Declaration {
     pub day: u32,
     pub q0: u32,

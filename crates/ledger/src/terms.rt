@@ -1,7 +1,10 @@
 // The terms of a contract with the operator.
-ghost use Rattle.std.specs.Prelude.{◌≡◌, ℕ, ◌+◌, ◌<◌, ◌≤◌, length, slice_index};
+ghost use Rattle.std.specs.Prelude.{◌<◌, ◌≤◌};
 
 mod filling;
+
+use crate::feasts::Feasts;
+pub use filling::Asked;
 
 // Every terms record keeps these limits.
 #[derive(Clone, Copy)]
@@ -16,9 +19,7 @@ pub struct Terms {
     // price of energy and of availability, in 0.0001 EUR per kWh and per kW and hour
     pub uf: u32,
     pub af: u32,
-    // the first `feast_count` of these are feasts, strictly rising
-    pub feasts: [u32; 32],
-    pub feast_count: usize,
+    pub feasts: Feasts,
     ghost some_kind: { 1 ≤ kinds },
     ghost known_kinds: { kinds ≤ 7 },
     ghost leads: { 8 ≤ w0 },
@@ -28,8 +29,4 @@ pub struct Terms {
     ghost power_to: { qc ≤ 128000 },
     ghost energy_price: { uf ≤ 100000 },
     ghost power_price: { af ≤ 100000 },
-    ghost table: { length feasts ≡ 32 },
-    ghost feast_room: { feast_count ≤ 32 },
-    ghost feast_days: { (k : ℕ) → k < feast_count → slice_index feasts k ≤ 36524 },
-    ghost rising: { (k : ℕ) → k + 1 < feast_count → slice_index feasts k < slice_index feasts (k + 1) },
 }

@@ -1,15 +1,12 @@
 -- What the words of a line mean, by their bytes.
-use Rattle.std.specs.Prelude.{◌≡◌, ℕ, ◌+◌, ◌-◌, ◌*◌, ◌/◌, ◌%◌, Bool, true, cond, ◌&&◌, ◌⊎◌, List, [], ◌∷◌, length, Some, None, Ok, Err, codes, Option, Result, ◌==◌, ◌≢◌, nat_le, nat_lt, slice_index}
+use Rattle.std.specs.Prelude.{◌≡◌, ℕ, ◌+◌, ◌-◌, ◌*◌, ◌/◌, ◌%◌, Bool, cond, ◌&&◌, ◌⊎◌, List, [], ◌∷◌, length, Some, None, Ok, Err, codes, Option, Result, ◌==◌, ◌≢◌, nat_le, nat_lt, slice_index}
 use Rattle.lifefile.specs.declared.flaw.Flaw.{Flaw}
 use Rattle.lifefile.specs.declared.flaw.Flaw.TheVariants.{Direction}
 use Rattle.std.specs.Option.{option_or}
+use Rattle.std.specs.Str.{all_ascii_digits}
 use Rattle.calendar.specs.declared.dates.Date.{Date}
 use Rattle.calendar.specs.DateText.{is_digit, two_digits, date_from}
 use Rattle.calendar.specs.Gregorian.{day_of}
-
-abbrev pub all_digits : List ℕ → Bool
-all_digits [] = true
-all_digits (b ∷ bs) = is_digit b && all_digits bs
 
 -- the number that digits write after those of v
 abbrev pub value_from : ℕ → List ℕ → ℕ
@@ -17,15 +14,15 @@ value_from v [] = v
 value_from v (b ∷ bs) = value_from (v * 10 + (b - 48)) bs
 
 abbrev pub number_from : ℕ → List ℕ → Option ℕ
-number_from v bs = cond (all_digits bs && nat_lt (value_from v bs) 4294967296) (Some (value_from v bs)) None
+number_from v bs = cond (all_ascii_digits bs && nat_lt (value_from v bs) 4294967296) (Some (value_from v bs)) None
 
 -- one digit or more, and at most 4294967295
 abbrev pub number_in : List ℕ → Option ℕ
 number_in bs = cond (length bs == 0) None (number_from 0 bs)
 
--- v with one more digit
-abbrev pub with_digit : ℕ → ℕ → Option ℕ
-with_digit v b = cond (is_digit b && nat_lt (v * 10 + (b - 48)) 4294967296) (Some (v * 10 + (b - 48))) None
+-- a number of two digits
+abbrev pub two_digits_in : List ℕ → Option ℕ
+two_digits_in t = cond (length t == 2) (number_in t) None
 
 -- a date's day, or a number
 abbrev pub day_by : Option Date → Option ℕ → Option ℕ

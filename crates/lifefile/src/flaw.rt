@@ -30,9 +30,9 @@ impl<T: Drop> From<AllocFailed<T>> for Flaw {
     }
 }
 
-impl Flaw {
-    fn words(self) -> &'static str {
-        match self {
+impl fmt::Display for Flaw {
+    fn fmt<W: fmt::Write>(&self, f: &mut fmt::Formatter<W>) -> fmt::Result {
+        f.write_str(match self {
             Flaw::NotAscii => "a byte that is not ASCII",
             Flaw::Spaces => "words are parted by one space, and none stands before or after them",
             Flaw::Unknown => "an unknown word",
@@ -46,13 +46,6 @@ impl Flaw {
             Flaw::Sequence => "out of sequence: one store, at most one keep, terms, then the calls",
             Flaw::Unreadable => "the file that it names cannot be read",
             Flaw::NoMemory => "the machine gives no memory for it",
-        }
-    }
-}
-
-impl fmt::Display for Flaw {
-    fn fmt<W: fmt::Write>(&self, f: &mut fmt::Formatter<W>) -> fmt::Result {
-        let words = self.words();
-        write!(f, "{words}")
+        })
     }
 }

@@ -3,6 +3,7 @@ use crate::flaw::Flaw;
 use crate::values::curve_of;
 use crate::words::{day, direction, number, quarter};
 use ledger::life::Call;
+use ledger::terms::Asked;
 use metering::columns::Columns;
 use metering::fault::Fault;
 use std::alloc::Global;
@@ -31,7 +32,21 @@ pub struct TermsLine {
     pub feasts: Vec<u32>,
 }
 
-// What the line of an answer shows besides the answer.
+impl TermsLine {
+    pub(crate) fn asked(&self) -> Asked<'_> {
+        Asked {
+            kinds: self.kinds,
+            w0: self.w0,
+            w1: self.w1,
+            qc: self.qc,
+            uf: self.uf,
+            af: self.af,
+            feasts: self.feasts.as_slice(),
+        }
+    }
+}
+
+// What the line of an answer shows besides the answer, taken from the call's own line, since the answer tells none of it.
 #[derive(Clone, Copy)]
 pub enum Note {
     Plain,
@@ -87,10 +102,7 @@ fn terms_line(heap: Global, words: &[&str]) -> Result<Line, Flaw> {
     let [kinds, w0, w1, qc, uf, af, days @ ..] = words else {
         return Err(Flaw::Count);
     };
-    let mut feasts = Vec::new(heap);
-    for word in days {
-        feasts.push(day(word)?)?;
-    }
+    let feasts = days.iter().map(|word| day(word)).try_collect(heap)?;
     Ok(Line::Terms(TermsLine {
         kinds: number(kinds)?,
         w0: quarter(w0)?,
@@ -110,7 +122,7 @@ fn register_line(heap: Global, words: &[&str]) -> Result<Line, Flaw> {
     let call = Call::Register {
         pod: pod.as_bytes().to_vec(heap)?,
         // No supplied rule has a choice above 3, so that 255 stands for all above it.
-        choice: choice.min(255) as u8,
+        choice: u8::try_from(choice).unwrap_or(u8::MAX),
         power: number(power)?,
     };
     Ok(Line::Call(call, Note::Plain))
@@ -225,12 +237,9 @@ pub fn parse_line(heap: Global, text: &str) -> Result<Line, Flaw> {
     if !text.is_ascii() {
         return Err(Flaw::NotAscii);
     }
-    let mut words = Vec::new(heap);
-    for word in text.split(' ') {
-        if word.is_empty() {
-            return Err(Flaw::Spaces);
-        }
-        words.push(word)?;
+    let words: Vec<&str> = text.split(' ').collect(heap)?;
+    if words.iter().any(|word| word.is_empty()) {
+        return Err(Flaw::Spaces);
     }
     match words.as_slice() {
         [first, rest @ ..] => line_of(heap, first, rest),

@@ -10,7 +10,7 @@ use stores::fault::StoreFault;
 use stores::journal::{Journal, journal_fits};
 use stores::ring::{Ring, ring_fits};
 
-// A store as the library makes it, and whether its values will do.
+// A store as the library makes it, and whether its values will do: one that will not is a store too, so both are there.
 #[derive(Drop)]
 pub struct Made<S: Drop> {
     pub store: S,
@@ -35,6 +35,7 @@ fn memory_for(fits: Result<(), StoreFault>, size: usize) -> usize
     if fits.is_ok() { size } else { 0 }
 }
 
+// A ring and a journal share no function: memory, values and meaning all differ.
 pub fn ring_of(
     heap: Global,
     width: u32,

@@ -1,107 +1,165 @@
 // The lines of refusals: what was refused, in plain words, and whose matter it is.
 use calendar::date_of;
+use ledger::fault::BookFault;
 use metering::fault::Fault;
-use refusals::{Layer, Refusal, matter_of};
+use refusals::{Refusal, matter_of};
+use rulebooks::RuleFault;
 use std::alloc::AllocError;
+use std::fmt;
+use stores::fault::StoreFault;
+
+// Of the store, the rulebook and the book alike.
+const OUT_OF_RANGE: &str = "a day, a quarter, a direction or a power is out of range";
+
+const UNKNOWN_CHOICE: &str = "the rulebook does not know this choice";
 
 // A day as its date; one beyond the calendar as its number.
-fn write_day(out: &mut String, day: u32) -> Result<(), AllocError> {
-    match date_of(day) {
-        Some(date) => write!(out, "{date}"),
-        None => write!(out, "day {day}"),
-    }
-}
+#[derive(Clone, Copy)]
+struct Day(u32);
 
-// What is refused without a place.
-fn plain_words(number: u8) -> &'static str {
-    match number {
-        1 => "the terms break a limit and stay as they were",
-        2 => "the metering point is malformed or in use, or the power is not 1 to 4000 kW",
-        3 => "an order is booked, so no resource can be registered any more",
-        4 => "the store has no room for another resource",
-        5 => "the rulebook does not know this choice",
-        6 => "no store can be made with this memory, width or span",
-        14 => "a day, a quarter, a direction or a power is out of range",
-        15 => "this lies outside the window or the kinds of day of the terms",
-        16 => "it starts less than eight quarters after the end of the order before",
-        17 => "128 orders are booked already",
-        18 => "it shares a quarter with an earlier declaration",
-        19 => "64 declarations are made already",
-        20 => "no order of this number is booked",
-        21 => "this order is settled already",
-        25 => "there is no such month from 2000 to 2099",
-        27 => "the memory for the evidence or the line is too short",
-        _ => "this cannot be granted",
-    }
-}
-
-fn write_unheld(out: &mut String, number: u8, resource: u32, day: u32) -> Result<(), AllocError> {
-    match number {
-        11 => write!(
-            out,
-            "the store keeps no day so early: resource {resource} on "
-        )?,
-        12 => write!(out, "a curve is held already for resource {resource} on ")?,
-        13 => write!(
-            out,
-            "the store is full: no room for resource {resource} on "
-        )?,
-        _ => write!(out, "the order's day has no curve of resource {resource}: ")?,
-    }
-    write_day(out, day)
-}
-
-fn write_words(out: &mut String, refusal: Refusal) -> Result<(), AllocError> {
-    let first = refusal.first;
-    let second = refusal.second;
-    match refusal.number {
-        10 if refusal.layer == Layer::Store => {
-            write!(out, "the store is too narrow for resource {first}")
+impl fmt::Display for Day {
+    fn fmt<W: fmt::Write>(&self, f: &mut fmt::Formatter<W>) -> fmt::Result {
+        let day = self.0;
+        match date_of(day) {
+            Some(date) => write!(f, "{date}"),
+            None => write!(f, "day {day}"),
         }
-        10 => write!(out, "no resource {first} is registered"),
-        11 | 12 | 13 | 22 => write_unheld(out, refusal.number, first, second),
-        23 => write!(
-            out,
-            "only {second} of the history days that the choice of resource {first} needs are held"
-        ),
-        24 => write!(
-            out,
-            "the rule of resource {first} gives no baseline for quarter {second}"
-        ),
-        26 => write!(out, "order {first} of this month is not settled"),
-        number => out.push_str(plain_words(number)),
     }
 }
 
-fn write_head(out: &mut String, line: usize, refusal: Refusal) -> Result<(), AllocError> {
-    let number = refusal.number;
-    let layer = refusal.layer;
-    let first = refusal.first;
-    let second = refusal.second;
-    write!(out, "{line} refused {number} {layer} {first} {second} ")
+// What a store refuses, in plain words.
+#[derive(Clone, Copy)]
+struct StoreWords(StoreFault);
+
+impl fmt::Display for StoreWords {
+    fn fmt<W: fmt::Write>(&self, f: &mut fmt::Formatter<W>) -> fmt::Result {
+        match self.0 {
+            StoreFault::Unfit => write!(f, "no store can be made with this memory, width or span"),
+            StoreFault::Day => write!(f, "{OUT_OF_RANGE}"),
+            StoreFault::Resource { resource, .. } => {
+                write!(f, "the store is too narrow for resource {resource}")
+            }
+            StoreFault::UnderFloor { resource, day } => write!(
+                f,
+                "the store keeps no day so early: resource {resource} on {}",
+                Day(day)
+            ),
+            StoreFault::Held { resource, day } => write!(
+                f,
+                "a curve is held already for resource {resource} on {}",
+                Day(day)
+            ),
+            StoreFault::Full { resource, day } => write!(
+                f,
+                "the store is full: no room for resource {resource} on {}",
+                Day(day)
+            ),
+        }
+    }
 }
 
-fn write_matter(out: &mut String, number: u8) -> Result<(), AllocError> {
+// What a book refuses or passes on, in plain words.
+#[derive(Clone, Copy)]
+struct Words(BookFault);
+
+impl fmt::Display for Words {
+    fn fmt<W: fmt::Write>(&self, f: &mut fmt::Formatter<W>) -> fmt::Result {
+        match self.0 {
+            BookFault::Terms => write!(f, "the terms break a limit and stay as they were"),
+            BookFault::Fields => write!(
+                f,
+                "the metering point is malformed or in use, or the power is not 1 to 4000 kW"
+            ),
+            BookFault::OrdersBooked => write!(
+                f,
+                "an order is booked, so no resource can be registered any more"
+            ),
+            BookFault::NoRoom => write!(f, "the store has no room for another resource"),
+            BookFault::UnknownChoice => write!(f, "{UNKNOWN_CHOICE}"),
+            BookFault::NotRegistered { resource, .. } => {
+                write!(f, "no resource {resource} is registered")
+            }
+            BookFault::Number => write!(f, "{OUT_OF_RANGE}"),
+            BookFault::Outside => write!(
+                f,
+                "this lies outside the window or the kinds of day of the terms"
+            ),
+            BookFault::TooSoon => write!(
+                f,
+                "it starts less than eight quarters after the end of the order before"
+            ),
+            BookFault::ManyOrders => write!(f, "128 orders are booked already"),
+            BookFault::Declared => write!(f, "it shares a quarter with an earlier declaration"),
+            BookFault::ManyDeclarations => write!(f, "64 declarations are made already"),
+            BookFault::NoOrder => write!(f, "no order of this number is booked"),
+            BookFault::Settled => write!(f, "this order is settled already"),
+            BookFault::NoCurve { resource, day } => write!(
+                f,
+                "the order's day has no curve of resource {resource}: {}",
+                Day(day)
+            ),
+            BookFault::ShortHistory { resource, found } => write!(
+                f,
+                "only {found} of the history days that the choice of resource {resource} needs are held"
+            ),
+            BookFault::NoMonth => write!(f, "there is no such month from 2000 to 2099"),
+            BookFault::Unsettled { order } => {
+                write!(f, "order {order} of this month is not settled")
+            }
+            BookFault::ShortMemory => {
+                write!(f, "the memory for the evidence or the line is too short")
+            }
+            BookFault::Store(fault) => write!(f, "{}", StoreWords(fault)),
+            BookFault::Rule {
+                resource,
+                quarter,
+                fault,
+            } => match fault {
+                RuleFault::OutOfRange => write!(f, "{OUT_OF_RANGE}"),
+                RuleFault::UnknownChoice => write!(f, "{UNKNOWN_CHOICE}"),
+                RuleFault::NoBaseline => write!(
+                    f,
+                    "the rule of resource {resource} gives no baseline for quarter {quarter}"
+                ),
+            },
+        }
+    }
+}
+
+fn write_line<W: fmt::Display>(
+    out: &mut String,
+    line: usize,
+    refusal: Refusal,
+    words: &W,
+) -> Result<(), AllocError> {
+    let Refusal {
+        number,
+        layer,
+        first,
+        second,
+    } = refusal;
     let matter = matter_of(number);
-    writeln!(out, ": {matter}")
+    writeln!(
+        out,
+        "{line} refused {number} {layer} {first} {second} {words}: {matter}"
+    )
 }
 
-pub fn write_refused(out: &mut String, line: usize, refusal: Refusal) -> Result<(), AllocError> {
-    write_head(out, line, refusal)?;
-    write_words(out, refusal)?;
-    write_matter(out, refusal.number)
+pub fn write_refused(out: &mut String, line: usize, fault: BookFault) -> Result<(), AllocError> {
+    write_line(out, line, fault.refusal(), &Words(fault))
 }
 
 // A curve that could not be formed or imported.
 pub fn write_unformed(out: &mut String, line: usize, fault: Fault) -> Result<(), AllocError> {
-    let refusal = fault.refusal();
-    write_head(out, line, refusal)?;
     match fault {
-        Fault::Lists => write!(
+        Fault::Lists => write_line(
             out,
-            "the values do not come to 96, or one is beyond 1000000 Wh either way"
-        )?,
-        _ => write!(out, "{fault}")?,
+            line,
+            fault.refusal(),
+            &"the values do not come to 96, or one is beyond 1000000 Wh either way",
+        ),
+        Fault::Header { .. } | Fault::Row { .. } => {
+            write_line(out, line, fault.refusal(), &fault)
+        }
     }
-    write_matter(out, refusal.number)
 }

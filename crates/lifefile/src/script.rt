@@ -22,7 +22,7 @@ pub struct At<T> {
     pub what: T,
 }
 
-// A call of the book, by its place in the list, or a curve that never came to be.
+// A call of the book, or a curve that never came to be. A life takes its calls as one slice, so a step names its by place.
 #[derive(Clone, Copy)]
 pub enum Step {
     Unformed(Fault),
@@ -78,18 +78,7 @@ impl Script {
         if self.store.is_none() || !self.steps.is_empty() {
             return Err(Flaw::Sequence);
         }
-        let TermsLine {
-            kinds,
-            w0,
-            w1,
-            qc,
-            uf,
-            af,
-            feasts,
-        } = terms;
-        let what = self
-            .terms
-            .fill(kinds, w0, w1, qc, uf, af, feasts.as_slice());
+        let what = self.terms.fill(&terms.asked());
         self.fillings.push(At { line, what })?;
         Ok(())
     }
@@ -175,8 +164,7 @@ impl Script {
 // Up to the first line that is wrong.
 pub fn read_script<E: Exports>(heap: Global, exports: &E, text: &str) -> Script {
     let mut script = Script::new(heap);
-    for (index, text) in text.split('\n').enumerate() {
-        let line = index.saturating_add(1);
+    for (line, text) in (1usize..).zip(text.split('\n')) {
         if let Err(flaw) = script.read(heap, exports, line, text) {
             script.flaw = Some(At { line, what: flaw });
             return script;

@@ -21,14 +21,14 @@ pub fn write_made<S: Store>(
     store: &S,
 ) -> Result<(), AllocError> {
     if let Err(fault) = fits {
-        return write_refused(out, line, fault.refusal());
+        return write_refused(out, line, fault.into());
     }
-    let width = store.width();
-    let capacity = store.capacity();
-    let span = store.span();
     writeln!(
         out,
-        "{line} ok {word} width {width} capacity {capacity} span {span}"
+        "{line} ok {word} width {} capacity {} span {}",
+        store.width(),
+        store.capacity(),
+        store.span()
     )
 }
 
@@ -39,7 +39,7 @@ pub fn write_filled(
 ) -> Result<(), AllocError> {
     match filled {
         Ok(()) => writeln!(out, "{line} ok terms"),
-        Err(fault) => write_refused(out, line, fault.refusal()),
+        Err(fault) => write_refused(out, line, fault),
     }
 }
 
@@ -59,6 +59,7 @@ fn write_entered(out: &mut String, line: usize, note: Note) -> Result<(), AllocE
     )
 }
 
+// A writer and no `Display`: the line stands in this one place, and a wrapper would hold the same text.
 fn write_outcome(
     out: &mut String,
     line: usize,
@@ -103,15 +104,15 @@ fn write_evidence(
 ) -> Result<(), AllocError>
     requires { length words.now ≡ 19 }
 {
+    let [measured, needed, days @ .., c, l] = words else {
+        unreachable!()
+    };
     write!(out, "{line} evidence {resource}")?;
-    if words[0] == 0 {
+    if *measured == 0 {
         return writeln!(out, " estimated");
     }
-    let needed = words[1];
-    let c = words[17];
-    let l = words[18];
     write!(out, " days {needed}")?;
-    write_days(out, &words[2..17], needed)?;
+    write_days(out, days, *needed)?;
     writeln!(out, " C {c} L {l}")
 }
 
@@ -121,13 +122,13 @@ fn write_sheet(
     resources: usize,
     sheet: &[i32; 608],
 ) -> Result<(), AllocError> {
-    for resource in 0..resources.min(32) {
-        let from = 19 * resource;
-        write_evidence(out, line, resource, &sheet[from..from + 19])?;
+    for (resource, words) in sheet.chunks_exact(19).take(resources).enumerate() {
+        write_evidence(out, line, resource, words)?;
     }
     Ok(())
 }
 
+// A writer and no `Display`, as in `write_outcome`.
 fn write_month(out: &mut String, line: usize, figures: &Month) -> Result<(), AllocError> {
     let Month {
         av,
@@ -142,9 +143,7 @@ fn write_month(out: &mut String, line: usize, figures: &Month) -> Result<(), All
     } = *figures;
     write!(out, "{line} ok month AV {av} DI {di}")?;
     write!(out, " EDm {edm} pTm {ptm} SETm {setm}")?;
-    let whole = dpm / 100;
-    let hundredths = dpm % 100;
-    write!(out, " DPm {whole},{hundredths:02}")?;
+    write!(out, " DPm {},{:02}", dpm / 100, dpm % 100)?;
     writeln!(out, " APm {apm} UPm {upm} pay {pay}")
 }
 
@@ -157,7 +156,7 @@ pub fn write_answer(
     answer: &Answer,
 ) -> Result<(), AllocError> {
     match answer {
-        Answer::Refused(fault) => write_refused(out, line, fault.refusal()),
+        Answer::Refused(fault) => write_refused(out, line, *fault),
         Answer::Registered(resource) => writeln!(out, "{line} ok register {resource}"),
         Answer::Entered => write_entered(out, line, note),
         Answer::Dropped => writeln!(out, "{line} ok drop"),

@@ -1,8 +1,8 @@
 // The values of a `curve` line, as the three lists that a curve is formed of.
 ghost use Rattle.std.specs.Prelude.{◌≡◌};
-ghost use Rattle.std.specs.Option.{ok_or, option_map};
+ghost use Rattle.std.specs.Option.{ok_or};
 ghost use Rattle.lifefile.specs.declared.flaw.Flaw.TheVariants.{Value as ValueFlaw};
-ghost use Rattle.lifefile.specs.Values.{value_in, injecting, drawing};
+ghost use Rattle.lifefile.specs.Values.{value_in, injected_of, drawn_of, mark_of};
 
 use crate::flaw::Flaw;
 use crate::words::{number, number_in};
@@ -12,77 +12,60 @@ use metering::forming::form;
 use std::alloc::Global;
 
 #[derive(Clone, Copy, PartialEq, Eq, Debug)]
-struct Value {
-    injected: u32,
-    drawn: u32,
-    mark: u8,
+enum Value {
+    Injected(u32),
+    Drawn(u32),
+    Estimated,
 }
 
 // One more than a day has: enough for the forming to refuse.
 const MOST_VALUES: usize = 97;
 
-#[derive(Drop)]
-struct Lists {
-    injected: Vec<u32>,
-    drawn: Vec<u32>,
-    marks: Vec<u8>,
-}
-
-impl Lists {
-    // Grows by no more than a day and a quarter, however often the value is repeated.
-    fn add(&mut self, value: Value, count: u32) -> Result<(), Flaw> {
-        for _ in 0..count.min(97) {
-            if self.marks.len() >= MOST_VALUES {
-                return Ok(());
-            }
-            self.injected.push(value.injected)?;
-            self.drawn.push(value.drawn)?;
-            self.marks.push(value.mark)?;
+impl Value {
+    fn injected(self) -> u32
+        ensures { result ≡ injected_of self }
+    {
+        match self {
+            Value::Injected(wh) => wh,
+            Value::Drawn(_) | Value::Estimated => 0,
         }
-        Ok(())
+    }
+
+    fn drawn(self) -> u32
+        ensures { result ≡ drawn_of self }
+    {
+        match self {
+            Value::Drawn(wh) => wh,
+            Value::Injected(_) | Value::Estimated => 0,
+        }
+    }
+
+    fn mark(self) -> u8
+        ensures { result ≡ mark_of self }
+    {
+        match self {
+            Value::Injected(_) | Value::Drawn(_) => 0,
+            Value::Estimated => 1,
+        }
     }
 }
 
-fn injected_by(number: Option<u32>) -> Option<Value>
-    ensures { result ≡ option_map injecting number }
+fn value_in(word: &str) -> Option<Value>
+    ensures { result ≡ value_in word.now }
 {
-    Some(Value {
-        injected: number?,
-        drawn: 0,
-        mark: 0,
-    })
-}
-
-fn drawn_by(number: Option<u32>) -> Option<Value>
-    ensures { result ≡ option_map drawing number }
-{
-    Some(Value {
-        injected: 0,
-        drawn: number?,
-        mark: 0,
-    })
-}
-
-fn value_in(bytes: &[u8]) -> Option<Value>
-    ensures { result ≡ value_in bytes.now }
-{
-    if bytes.len() == 1 && bytes[0] == b'E' {
-        return Some(Value {
-            injected: 0,
-            drawn: 0,
-            mark: 1,
-        });
+    if word == "E" {
+        return Some(Value::Estimated);
     }
-    if bytes.len() >= 1 && bytes[0] == b'-' {
-        return drawn_by(number_in(&bytes[1..]));
+    match word.strip_prefix('-') {
+        Some(drawn) => number_in(drawn).map(Value::Drawn),
+        None => number_in(word).map(Value::Injected),
     }
-    injected_by(number_in(bytes))
 }
 
 fn value_of(word: &str) -> Result<Value, Flaw>
     ensures { result ≡ ok_or (value_in word.now) ValueFlaw }
 {
-    value_in(word.as_bytes()).ok_or(Flaw::Value)
+    value_in(word).ok_or(Flaw::Value)
 }
 
 // A value and how often it stands.
@@ -93,22 +76,24 @@ fn repeated(word: &str) -> Result<(Value, u32), Flaw> {
     }
 }
 
+// Grows by no more than a day and a quarter, however often the value is repeated.
+fn add(values: &mut Vec<Value>, word: &str) -> Result<(), Flaw> {
+    let (value, count) = repeated(word)?;
+    let length = values.len().saturating_add(count as usize);
+    values.resize(length.min(MOST_VALUES), value)?;
+    Ok(())
+}
+
 // The curve of the values, or why it cannot be formed.
 pub fn curve_of(heap: Global, first: &str, more: &[&str]) -> Result<Result<Curve, Fault>, Flaw> {
-    let mut lists = Lists {
-        injected: Vec::new(heap),
-        drawn: Vec::new(heap),
-        marks: Vec::new(heap),
-    };
-    let (value, count) = repeated(first)?;
-    lists.add(value, count)?;
+    let mut values = Vec::new(heap);
+    add(&mut values, first)?;
     for word in more {
-        let (value, count) = repeated(word)?;
-        lists.add(value, count)?;
+        add(&mut values, word)?;
     }
-    Ok(form(
-        lists.injected.as_slice(),
-        lists.drawn.as_slice(),
-        lists.marks.as_slice(),
-    ))
+    // Forming takes three lists, each in memory that is handed in.
+    let injected: Vec<u32> = values.iter().map(|value| value.injected()).collect(heap)?;
+    let drawn: Vec<u32> = values.iter().map(|value| value.drawn()).collect(heap)?;
+    let marks: Vec<u8> = values.iter().map(|value| value.mark()).collect(heap)?;
+    Ok(form(injected.as_slice(), drawn.as_slice(), marks.as_slice()))
 }

@@ -1,10 +1,12 @@
 // meter: one meter export, where its columns stood and what its day amounts to.
 #![tactic(auto)]
 
+use anyhow::bail;
+use asking::{Asked, asked_by, ended, read_whole};
 use std::process::ExitCode;
+use std::{env, fs, io};
 
 mod report;
-mod source;
 
 const HELP: &str = "usage: meter [FILE]
 Reads one day's meter export from FILE, or from standard input where no file is named, and prints
@@ -13,28 +15,29 @@ of injected minus drawn energy, its lowest and highest quarter and the quarters 
 An export that is not well formed is refused: the refusal is printed with its number, line and column
 and whose matter it is, and the program ends with status 1.";
 
-// False where the export is refused or its file cannot be read.
-fn run(rt: &HostRuntime) -> anyhow::Result<bool> {
-    match source::request(rt)? {
-        source::Asked::Help => {
+fn run(rt: &HostRuntime) -> anyhow::Result<ExitCode> {
+    let words: Vec<String> = env::args(rt)?.skip(1).collect(rt.alloc())?;
+    if words.len() > 1 {
+        bail!("more than one file is named; meter --help says what it takes");
+    }
+    let file = words.first().map(|word| word.as_str());
+    match (asked_by(file), file) {
+        (Asked::Help, _) => {
             println!(rt; "{HELP}")?;
-            Ok(true)
+            Ok(ExitCode::SUCCESS)
         }
-        source::Asked::Input => report::export(rt, source::from_input(rt)?.as_slice()),
-        source::Asked::File(path) => match source::from_file(rt, path.as_str())? {
-            Some(bytes) => report::export(rt, bytes.as_slice()),
-            None => Ok(false),
+        (Asked::Files, Some(path)) => match fs::read(rt, path) {
+            Ok(bytes) => report::export(rt, bytes.as_slice()),
+            // Told here: an error that is passed on keeps a text only in part.
+            Err(e) => {
+                eprintln!(rt; "meter: {path} cannot be read: {e}")?;
+                Ok(ExitCode::FAILURE)
+            }
         },
+        _ => report::export(rt, read_whole(rt.alloc(), rt.stdin())?.as_slice()),
     }
 }
 
-fn main(rt: HostRuntime) -> anyhow::Result<ExitCode> {
-    match run(&rt) {
-        Ok(true) => Ok(ExitCode::SUCCESS),
-        Ok(false) => Ok(ExitCode::FAILURE),
-        Err(e) => {
-            eprintln!(rt; "meter: {e}")?;
-            Ok(ExitCode::FAILURE)
-        }
-    }
+fn main(rt: HostRuntime) -> io::Result<ExitCode> {
+    ended(&rt, "meter", run(&rt))
 }

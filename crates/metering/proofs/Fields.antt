@@ -7,11 +7,12 @@ use Rattle.std.proofs.lemmas.Slice.Eq.{bytes_eq-Decides}
 use Rattle.std.proofs.lemmas.Fmt.{decimal_step, decimal_digit, decimal_by_steps}
 use Rattle.std.proofs.lemmas.Bool.{cases_Bool, cond_both, leb-true, leb-false, ltb-true, ltb-false, eqb-true, eq-eqb, le-leb, lt-ltb, cond-true}
 use Rattle.metering.specs.declared.columns.Column.TheVariants.{Other}
-use Rattle.metering.specs.declared.columns.Kind.{Kind}
-use Rattle.metering.specs.declared.columns.Kind.TheVariants.{Name, Count, Energy, Letter, Skipped, Beyond}
-use Rattle.metering.specs.declared.columns.Value.{Value}
-use Rattle.metering.specs.declared.columns.Value.TheVariants.{Named, Passed, Amount}
-use Rattle.metering.specs.declared.columns.Place.{Place}
+use Rattle.metering.specs.declared.place.Kind.{Kind}
+use Rattle.metering.specs.declared.place.Kind.TheVariants.{Name, Count, Energy, Letter, Skipped, Beyond}
+use Rattle.metering.specs.declared.place.Value.{Value}
+use Rattle.metering.specs.declared.place.Value.TheVariants.{Named, Passed, Amount}
+use Rattle.metering.specs.declared.place.Place.{Place}
+use Rattle.metering.specs.declared.place.Place.TheVariants.{Header as AtHeader, Row as AtRow}
 use Rattle.metering.specs.declared.cell.Cell.{Cell}
 use Rattle.metering.specs.declared.cell.Cell.TheVariants.{Spelled, Long, Number, Whole, Fraction, Letter as AtLetter, Measured, Estimated, Skipped as Skipping, Beyond as Shut}
 use Rattle.metering.specs.Cells.{column_of, energy, Shows, Read, start, digit, stepped, finished, as_name}
@@ -120,10 +121,7 @@ says_step (Fraction v k) b p h =
 says_step AtLetter b p h =
     cond_both (eqb b 77) _ _ (λ o. SaysO o (p ++ (b ∷ []))) (λ e. ap (λ z. z ++ (b ∷ [])) h ∙ ap (λ n. n ∷ []) (eqb-true b 77 e)) (λ _.
     cond_both (eqb b 69) _ _ (λ o. SaysO o (p ++ (b ∷ []))) (λ e. ap (λ z. z ++ (b ∷ [])) h ∙ ap (λ n. n ∷ []) (eqb-true b 69 e)) (λ _. tt))
-says_step Measured b p h = tt
-says_step Estimated b p h = tt
-says_step Skipping b p h = tt
-says_step Shut b p h = tt
+says_step c b p h = tt
 
 says_ran : (s : Cell) (f p : List ℕ) → Says s p → SaysO (ran s f) (p ++ f)
 says_ran s [] p h = rw append-nil h
@@ -151,32 +149,13 @@ long_other f h =
 sound_name : (s : Cell) (f : List ℕ) → Says s f → Sound Name f (finished Name s)
 sound_name (Spelled n) f h = cond_both (leb n.len 8) _ _ (Sound Name f) (λ _. ap (λ x. Named (column_of x)) (sym h.0)) (λ _. tt)
 sound_name Long f h = ap Named (long_other f h)
-sound_name Number f h = tt
-sound_name (Whole w) f h = tt
-sound_name (Fraction v k) f h = tt
-sound_name AtLetter f h = tt
-sound_name Measured f h = tt
-sound_name Estimated f h = tt
-sound_name Skipping f h = tt
-sound_name Shut f h = tt
+sound_name s f h = tt
 
 sound_count : (q : ℕ) (s : Cell) (f : List ℕ) → Says s f → Sound (Count q) f (finished (Count q) s)
-sound_count q (Spelled n) f h = tt
-sound_count q Long f h = tt
-sound_count q Number f h = tt
 sound_count q (Whole w) f h = cond_both (eqb w q) _ _ (Sound (Count q) f) (λ e. (h.0 ∙ ap decimal (eqb-true w q e), refl)) (λ _. tt)
-sound_count q (Fraction v k) f h = tt
-sound_count q AtLetter f h = tt
-sound_count q Measured f h = tt
-sound_count q Estimated f h = tt
-sound_count q Skipping f h = tt
-sound_count q Shut f h = tt
+sound_count q s f h = tt
 
 sound_energy : (s : Cell) (f : List ℕ) → Says s f → Sound Energy f (finished Energy s)
-sound_energy (Spelled n) f h = tt
-sound_energy Long f h = tt
-sound_energy Number f h = tt
-sound_energy (Whole w) f h = tt
 sound_energy (Fraction v k) f h =
     cond_both (eqb k 3) _ _ (Sound Energy f) (λ e.
     cond_both (leb v 1000000) _ _ (Sound Energy f) (λ e2.
@@ -184,35 +163,16 @@ sound_energy (Fraction v k) f h =
     let b : v / 10 / 10 ≡ v / 100 = omega arith in
     let g = rw (eqb-true k 3 e) at h in
     (v, leb-true v 1000000 e2, rw (← a, ← b) g, refl)) (λ _. tt)) (λ _. tt)
-sound_energy AtLetter f h = tt
-sound_energy Measured f h = tt
-sound_energy Estimated f h = tt
-sound_energy Skipping f h = tt
-sound_energy Shut f h = tt
+sound_energy s f h = tt
 
 sound_letter : (s : Cell) (f : List ℕ) → Says s f → Sound Letter f (finished Letter s)
-sound_letter (Spelled n) f h = tt
-sound_letter Long f h = tt
-sound_letter Number f h = tt
-sound_letter (Whole w) f h = tt
-sound_letter (Fraction v k) f h = tt
-sound_letter AtLetter f h = tt
 sound_letter Measured f h = inl (h, refl)
 sound_letter Estimated f h = inr (h, refl)
-sound_letter Skipping f h = tt
-sound_letter Shut f h = tt
+sound_letter s f h = tt
 
 sound_skipped : (s : Cell) (f : List ℕ) → Sound Skipped f (finished Skipped s)
-sound_skipped (Spelled n) f = tt
-sound_skipped Long f = tt
-sound_skipped Number f = tt
-sound_skipped (Whole w) f = tt
-sound_skipped (Fraction v k) f = tt
-sound_skipped AtLetter f = tt
-sound_skipped Measured f = tt
-sound_skipped Estimated f = tt
 sound_skipped Skipping f = refl
-sound_skipped Shut f = tt
+sound_skipped s f = tt
 
 sound_end : (k : Kind) (s : Cell) (f : List ℕ) → Says s f → Sound k f (finished k s)
 sound_end Name s f h = sound_name s f h
@@ -286,14 +246,7 @@ ran_skipped (b ∷ bs) = ran_skipped bs
 abbrev Spelling : Cell → Type 0
 Spelling (Spelled n) = n.len ≤ 8
 Spelling Long = Unit {0}
-Spelling Number = ⊥
-Spelling (Whole w) = ⊥
-Spelling (Fraction v k) = ⊥
-Spelling AtLetter = ⊥
-Spelling Measured = ⊥
-Spelling Estimated = ⊥
-Spelling Skipping = ⊥
-Spelling Shut = ⊥
+Spelling c = ⊥
 
 abbrev SpellingO : Option Cell → Type 0
 SpellingO None = ⊥
@@ -302,14 +255,7 @@ SpellingO (Some c) = Spelling c
 spelling_step : (c : Cell) (b : ℕ) → Spelling c → SpellingO (stepped c b)
 spelling_step (Spelled n) b h = cond_both (ltb n.len 8) _ _ SpellingO (λ e. let l = ltb-true n.len 8 e in omega arith) (λ _. tt)
 spelling_step Long b h = tt
-spelling_step Number b h = absurd h
-spelling_step (Whole w) b h = absurd h
-spelling_step (Fraction v k) b h = absurd h
-spelling_step AtLetter b h = absurd h
-spelling_step Measured b h = absurd h
-spelling_step Estimated b h = absurd h
-spelling_step Skipping b h = absurd h
-spelling_step Shut b h = absurd h
+spelling_step c b h = absurd h
 
 spelling_ran : (c : Cell) (f : List ℕ) → Spelling c → SpellingO (ran c f)
 spelling_ran c [] h = h
@@ -320,14 +266,7 @@ spelling_ran c (b ∷ bs) h =
 spelled_end : (c : Cell) → Spelling c → is_some (as_name c) ≡ true
 spelled_end (Spelled n) h = ap is_some (cond-true (leb n.len 8) _ _ (le-leb n.len 8 h))
 spelled_end Long h = refl
-spelled_end Number h = absurd h
-spelled_end (Whole w) h = absurd h
-spelled_end (Fraction v k) h = absurd h
-spelled_end AtLetter h = absurd h
-spelled_end Measured h = absurd h
-spelled_end Estimated h = absurd h
-spelled_end Skipping h = absurd h
-spelled_end Shut h = absurd h
+spelled_end c h = absurd h
 
 name_read : (f : List ℕ) → is_some (read_from Name (start Name) f) ≡ true
 name_read f =
@@ -345,16 +284,12 @@ pub name_ran : (f : List ℕ) → (c : Cell) × (ran (start Name) f ≡ Some c)
 name_ran f = reached (ran (start Name) f) (spelling_ran (start Name) f (omega arith))
 
 some_sound : (k : Kind) (f : List ℕ) (v : Value) (o : Option Value) → is_some o ≡ true → Sound k f o → ((w : Value) → Shows k f w → w ≡ v) → o ≡ Some v
-some_sound k f v None e s u = let z : ◌≡◌ {A = ℕ} 0 1 = cc in absurd (omega arith)
+some_sound k f v None e s u = cc
 some_sound k f v (Some w) e s u = ap Some (u w s)
 
 abbrev Fair : Kind → Type 0
-Fair Name = Unit {0}
 Fair (Count q) = q < 100
-Fair Energy = Unit {0}
-Fair Letter = Unit {0}
-Fair Skipped = Unit {0}
-Fair Beyond = Unit {0}
+Fair k = Unit {0}
 
 complete : (k : Kind) (f : List ℕ) (v : Value) → Fair k → Shows k f v → read_from k (start k) f ≡ Some v
 complete Name f v h s = some_sound Name f v (read_from Name (start Name) f) (name_read f) (sound Name f) (λ w x. x ∙ sym s)
@@ -365,17 +300,17 @@ complete Skipped f v h s = ap (λ o. onward o (finished Skipped)) (ran_skipped f
 complete Beyond f v h s = absurd s
 
 read_by : (k : Kind) (f : List ℕ) (o : Option Value) → Fair k → read_from k (start k) f ≡ o → Sound k f o → Read k f o
-read_by k f None h e s = λ v x. let c = complete k f v h x in let z : ◌≡◌ {A = ℕ} 0 1 = cc in omega arith
+read_by k f None h e s = λ v x. let c = complete k f v h x in cc
 read_by k f (Some v) h e s = s
 
 fair : (p : Place) → Fair (kind_at p)
-fair p =
-    cond_both (leb p.line 1) _ _ Fair (λ _. tt) (λ _.
-    cond_both (leb 98 p.line) _ _ Fair (λ _. tt) (λ e.
-    cond_both (eqb p.column p.columns.quarter) _ _ Fair (λ _. let h = leb-false 98 p.line e in omega arith) (λ _.
+fair (AtHeader p) = tt
+fair (AtRow p) =
+    cond_both (leb 96 p.quarter) _ _ Fair (λ _. tt) (λ e.
+    cond_both (eqb p.column p.columns.quarter) _ _ Fair (λ _. let h = leb-false 96 p.quarter e in omega arith) (λ _.
     cond_both (eqb p.column p.columns.a1) _ _ Fair (λ _. tt) (λ _.
     cond_both (eqb p.column p.columns.a2) _ _ Fair (λ _. tt) (λ _.
-    cond_both (eqb p.column p.columns.state) _ _ Fair (λ _. tt) (λ _. tt))))))
+    cond_both (eqb p.column p.columns.state) _ _ Fair (λ _. tt) (λ _. tt)))))
 
 -- the automaton reads what a field says, at every place
 pub reads_at : (p : Place) (f : List ℕ) → Read (kind_at p) f (read_from (kind_at p) (start (kind_at p)) f)

@@ -1,7 +1,7 @@
 -- A text means one thing.
-use Rattle.std.proofs.Common.{◌≡◌, ℕ, List, Some, None, Ok, Err, Option, Result, sym, refl, ap, ◌∙◌, subst, arith}
-use Rattle.metering.specs.declared.columns.Value.{Value}
-use Rattle.metering.specs.declared.columns.Place.{Place}
+use Rattle.std.proofs.Common.{◌≡◌, ℕ, List, Some, None, Ok, Err, Option, Result, sym, refl, ap, ◌∙◌, subst}
+use Rattle.metering.specs.declared.place.Value.{Value}
+use Rattle.metering.specs.declared.place.Place.{Place}
 use Rattle.metering.specs.declared.fault.Fault.{Fault}
 use Rattle.metering.specs.Text.{Text, field, rest}
 use Rattle.metering.specs.Places.{kind_at}
@@ -11,7 +11,7 @@ use Rattle.metering.specs.Meaning.{Taken, judged, Goes, Means}
 use Rattle.metering.proofs.Fields.{says_one}
 
 pub not_both : (t : Taken) (e : Fault) → ◌≡◌ {A = Result Taken Fault} (Ok t) (Err e) → ⊥
-not_both t e h = let z : ◌≡◌ {A = ℕ} 0 1 = cc in omega arith
+not_both t e h = cc
 
 read_one : (p : Place) (f : List ℕ) (x y : Option Value) → Read (kind_at p) f x → Read (kind_at p) f y → x ≡ y
 read_one p f None None g h = refl

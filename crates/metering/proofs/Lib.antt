@@ -1,6 +1,7 @@
 pub mod Limits
 pub mod Formed
 pub mod Same
+pub mod Answered
 pub mod Peaks
 pub mod Turns
 pub mod Fields

@@ -3,15 +3,15 @@ use Rattle.std.proofs.Common.{◌≡◌, ℕ, suc, ◌+◌, ◌-◌, ◌<◌, �
 use Rattle.std.proofs.lemmas.Bool.{cases_eq, cond-true, cond-false, eq-eqb, ne_eqb, le-ltb}
 use Rattle.metering.specs.declared.reading.Reading.{Reading}
 use Rattle.metering.specs.declared.reading.Reading.TheVariants.{Measured, Estimated}
-use Rattle.metering.specs.declared.columns.Value.{Value}
-use Rattle.metering.specs.declared.columns.Value.TheVariants.{Passed, Amount, Mark}
+use Rattle.metering.specs.declared.place.Value.{Value}
+use Rattle.metering.specs.declared.place.Value.TheVariants.{Passed, Amount, Mark}
 use Rattle.metering.specs.declared.columns.Columns.{Columns}
-use Rattle.metering.specs.declared.columns.Place.{Place}
+use Rattle.metering.specs.declared.place.Place.{Place}
 use Rattle.metering.specs.declared.reader.Row.{Row}
 use Rattle.metering.specs.Readings.{reading_of}
 use Rattle.metering.specs.Places.{kind_at}
 use Rattle.metering.specs.Cells.{energy, Shows}
-use Rattle.metering.specs.Progress.{filled, noted, noted_by}
+use Rattle.metering.specs.Progress.{filled_in, noted_by, noted_row}
 use Rattle.metering.specs.Export.{field_of, Marked, RowOf}
 use Rattle.metering.proofs.Limits.{reading_within}
 use Rattle.metering.proofs.Formed.{placed_is}
@@ -38,29 +38,29 @@ pub record Fits (w : ℕ) (c : Columns) : Type 0 where
 -- ONE COLUMN OF A ROW: a part of the row that the field of column k makes and the other fields keep
 
 abbrev Kept : ℕ → Columns → ℕ → {X : Type 0} → (Row → X) → ℕ → Type 0
-Kept w c l part k = (j : ℕ) (f : List ℕ) (v : Value) (r : Row) → (j ≡ k → ⊥) → Shows (kind_at (at w c l j)) f v → part (filled (at w c l j) v r) ≡ part r
+Kept w c q part k = (j : ℕ) (f : List ℕ) (v : Value) (r : Row) → (j ≡ k → ⊥) → Shows (kind_at (at w c q j)) f v → part (filled_in j c v r) ≡ part r
 
 abbrev Made : ℕ → Columns → ℕ → {X : Type 0} → (Row → X) → (List ℕ → X → Type 0) → ℕ → Type 0
-Made w c l part P k = (j : ℕ) (f : List ℕ) (v : Value) (r : Row) → j ≡ k → Shows (kind_at (at w c l j)) f v → P f (part (filled (at w c l j) v r))
+Made w c q part P k = (j : ℕ) (f : List ℕ) (v : Value) (r : Row) → j ≡ k → Shows (kind_at (at w c q j)) f v → P f (part (filled_in j c v r))
 
-kept_on : {X : Type 0} (w : ℕ) (c : Columns) (l : ℕ) (part : Row → X) (k : ℕ) → Kept w c l part k
-    → (j : ℕ) (fs : List (List ℕ)) (a b : Row) → k < j → Fills w c l j fs a b → part b ≡ part a
-kept_on w c l part k kept j [] a b h s = ap part s
-kept_on w c l part k kept j (f ∷ fs) a b h s =
-    kept_on w c l part k kept (j + 1) fs (filled (at w c l j) s.0 a) b (omega arith) s.2 ∙ kept j f s.0 a (λ e. omega arith) s.1
+kept_on : {X : Type 0} (w : ℕ) (c : Columns) (q : ℕ) (part : Row → X) (k : ℕ) → Kept w c q part k
+    → (j : ℕ) (fs : List (List ℕ)) (a b : Row) → k < j → Fills w c q j fs a b → part b ≡ part a
+kept_on w c q part k kept j [] a b h s = ap part s
+kept_on w c q part k kept j (f ∷ fs) a b h s =
+    kept_on w c q part k kept (j + 1) fs (filled_in j c s.0 a) b (omega arith) s.2 ∙ kept j f s.0 a (λ e. omega arith) s.1
 
-column_says : {X : Type 0} (w : ℕ) (c : Columns) (l : ℕ) (part : Row → X) (P : List ℕ → X → Type 0) (k : ℕ) → Kept w c l part k → Made w c l part P k
-    → (j : ℕ) (fs : List (List ℕ)) (a b : Row) → j ≤ k → k < j + length fs → Fills w c l j fs a b → P (get_or fs (k - j) []) (part b)
-column_says w c l part P k kept made j [] a b lo hi s = absurd (omega arith)
-column_says w c l part P k kept made j (f ∷ fs) a b lo hi s =
+column_says : {X : Type 0} (w : ℕ) (c : Columns) (q : ℕ) (part : Row → X) (P : List ℕ → X → Type 0) (k : ℕ) → Kept w c q part k → Made w c q part P k
+    → (j : ℕ) (fs : List (List ℕ)) (a b : Row) → j ≤ k → k < j + length fs → Fills w c q j fs a b → P (get_or fs (k - j) []) (part b)
+column_says w c q part P k kept made j [] a b lo hi s = absurd (omega arith)
+column_says w c q part P k kept made j (f ∷ fs) a b lo hi s =
     ⊎_elim
     (λ e.
     let z : k - j ≡ 0 = omega arith in
-    let o = kept_on w c l part k kept (j + 1) fs (filled (at w c l j) s.0 a) b (omega arith) s.2 in
+    let o = kept_on w c q part k kept (j + 1) fs (filled_in j c s.0 a) b (omega arith) s.2 in
     subst (λ n. P (get_or (f ∷ fs) n []) (part b)) (sym z) (subst (P f) (sym o) (made j f s.0 a e s.1)))
     (λ n.
     let z : k - j ≡ suc (k - (j + 1)) = omega arith in
-    subst (λ n. P (get_or (f ∷ fs) n []) (part b)) (sym z) (column_says w c l part P k kept made (j + 1) fs (filled (at w c l j) s.0 a) b (omega arith) (omega arith) s.2))
+    subst (λ n. P (get_or (f ∷ fs) n []) (part b)) (sym z) (column_says w c q part P k kept made (j + 1) fs (filled_in j c s.0 a) b (omega arith) (omega arith) s.2))
     (cases_eq j k)
 
 -- THE FOUR COLUMNS
@@ -86,70 +86,70 @@ injected_of r = r.injected
 abbrev estimated_in : Row → Bool
 estimated_in r = r.estimated
 
-made_number : (w : ℕ) (c : Columns) (l : ℕ) → 2 ≤ l → l ≤ 97 → Fits w c → Made w c l nothing (Numbers (l - 2)) c.quarter
-made_number w c l lo hi t j f v r e =
-    by_column (λ k. Shows k f v → f ≡ decimal (l - 2)) w c l j lo hi
+made_number : (w : ℕ) (c : Columns) (q : ℕ) → q < 96 → Fits w c → Made w c q nothing (Numbers q) c.quarter
+made_number w c q lt t j f v r e =
+    by_column (λ k. Shows k f v → f ≡ decimal q) w c q j lt
     (λ _ s. s.0)
     (λ g _. absurd (t.quarter_a1 (sym e ∙ g)))
     (λ _ g _. absurd (t.quarter_a2 (sym e ∙ g)))
     (λ g _. absurd (t.quarter_state (sym e ∙ g)))
     (λ n _ _ _ _. absurd (n e))
 
-filled_a1 : (w : ℕ) (c : Columns) (l j n : ℕ) (r : Row) → j ≡ c.a1 → filled (at w c l j) (Amount n) r ≡ record { drawn = n; injected = r.injected; estimated = r.estimated }
-filled_a1 w c l j n r e = cond-true (eqb j c.a1) _ _ (eq-eqb j c.a1 e)
+filled_a1 : (c : Columns) (j n : ℕ) (r : Row) → j ≡ c.a1 → filled_in j c (Amount n) r ≡ record { drawn = n; injected = r.injected; estimated = r.estimated }
+filled_a1 c j n r e = cond-true (eqb j c.a1) _ _ (eq-eqb j c.a1 e)
 
-filled_a2 : (w : ℕ) (c : Columns) (l j n : ℕ) (r : Row) → (j ≡ c.a1 → ⊥) → filled (at w c l j) (Amount n) r ≡ record { drawn = r.drawn; injected = n; estimated = r.estimated }
-filled_a2 w c l j n r e = cond-false (eqb j c.a1) _ _ (ne_eqb j c.a1 e)
+filled_a2 : (c : Columns) (j n : ℕ) (r : Row) → (j ≡ c.a1 → ⊥) → filled_in j c (Amount n) r ≡ record { drawn = r.drawn; injected = n; estimated = r.estimated }
+filled_a2 c j n r e = cond-false (eqb j c.a1) _ _ (ne_eqb j c.a1 e)
 
-made_drawn : (w : ℕ) (c : Columns) (l : ℕ) → 2 ≤ l → l ≤ 97 → Fits w c → Made w c l drawn_of Weighs c.a1
-made_drawn w c l lo hi t j f v r e =
-    by_column (λ k. Shows k f v → Weighs f (drawn_of (filled (at w c l j) v r))) w c l j lo hi
+made_drawn : (w : ℕ) (c : Columns) (q : ℕ) → q < 96 → Fits w c → Made w c q drawn_of Weighs c.a1
+made_drawn w c q lt t j f v r e =
+    by_column (λ k. Shows k f v → Weighs f (drawn_of (filled_in j c v r))) w c q j lt
     (λ g _. absurd (t.quarter_a1 (sym g ∙ e)))
-    (λ g s. subst (Weighs f) (sym (ap (λ x. drawn_of (filled (at w c l j) x r)) s.3 ∙ ap drawn_of (filled_a1 w c l j s.0 r e))) (s.1, s.2))
+    (λ g s. subst (Weighs f) (sym (ap (λ x. drawn_of (filled_in j c x r)) s.3 ∙ ap drawn_of (filled_a1 c j s.0 r e))) (s.1, s.2))
     (λ n _ _. absurd (n e))
     (λ g _. absurd (t.a1_state (sym e ∙ g)))
     (λ _ n _ _ _. absurd (n e))
 
-made_injected : (w : ℕ) (c : Columns) (l : ℕ) → 2 ≤ l → l ≤ 97 → Fits w c → Made w c l injected_of Weighs c.a2
-made_injected w c l lo hi t j f v r e =
-    by_column (λ k. Shows k f v → Weighs f (injected_of (filled (at w c l j) v r))) w c l j lo hi
+made_injected : (w : ℕ) (c : Columns) (q : ℕ) → q < 96 → Fits w c → Made w c q injected_of Weighs c.a2
+made_injected w c q lt t j f v r e =
+    by_column (λ k. Shows k f v → Weighs f (injected_of (filled_in j c v r))) w c q j lt
     (λ g _. absurd (t.quarter_a2 (sym g ∙ e)))
     (λ g _. absurd (t.a1_a2 (sym g ∙ e)))
-    (λ n g s. subst (Weighs f) (sym (ap (λ x. injected_of (filled (at w c l j) x r)) s.3 ∙ ap injected_of (filled_a2 w c l j s.0 r n))) (s.1, s.2))
+    (λ n g s. subst (Weighs f) (sym (ap (λ x. injected_of (filled_in j c x r)) s.3 ∙ ap injected_of (filled_a2 c j s.0 r n))) (s.1, s.2))
     (λ g _. absurd (t.a2_state (sym e ∙ g)))
     (λ _ _ n _ _. absurd (n e))
 
-made_estimated : (w : ℕ) (c : Columns) (l : ℕ) → 2 ≤ l → l ≤ 97 → Fits w c → Made w c l estimated_in Marks c.state
-made_estimated w c l lo hi t j f v r e =
-    by_column (λ k. Shows k f v → Marks f (estimated_in (filled (at w c l j) v r))) w c l j lo hi
+made_estimated : (w : ℕ) (c : Columns) (q : ℕ) → q < 96 → Fits w c → Made w c q estimated_in Marks c.state
+made_estimated w c q lt t j f v r e =
+    by_column (λ k. Shows k f v → Marks f (estimated_in (filled_in j c v r))) w c q j lt
     (λ g _. absurd (t.quarter_state (sym g ∙ e)))
     (λ g _. absurd (t.a1_state (sym g ∙ e)))
     (λ _ g _. absurd (t.a2_state (sym g ∙ e)))
-    (λ g s. ⊎_elim (λ m. inl (m.0, ap (λ x. estimated_in (filled (at w c l j) x r)) m.1)) (λ m. inr (m.0, ap (λ x. estimated_in (filled (at w c l j) x r)) m.1)) s)
+    (λ g s. ⊎_elim (λ m. inl (m.0, ap (λ x. estimated_in (filled_in j c x r)) m.1)) (λ m. inr (m.0, ap (λ x. estimated_in (filled_in j c x r)) m.1)) s)
     (λ _ _ _ n _. absurd (n e))
 
 -- a part of the row that only the field of column k writes
-kept_by : {X : Type 0} (w : ℕ) (c : Columns) (l : ℕ) (part : Row → X) (k : ℕ) → 2 ≤ l → l ≤ 97
+kept_by : {X : Type 0} (w : ℕ) (c : Columns) (q : ℕ) (part : Row → X) (k : ℕ) → q < 96
     → ((c.a1 ≡ k → ⊥) → (n : ℕ) (r : Row) → part (record { drawn = n; injected = r.injected; estimated = r.estimated }) ≡ part r)
     → ((c.a2 ≡ k → ⊥) → (n : ℕ) (r : Row) → part (record { drawn = r.drawn; injected = n; estimated = r.estimated }) ≡ part r)
     → ((c.state ≡ k → ⊥) → (e : Bool) (r : Row) → part (record { drawn = r.drawn; injected = r.injected; estimated = e }) ≡ part r)
-    → Kept w c l part k
-kept_by w c l part k lo hi a b m j f v r n =
-    by_column (λ x. Shows x f v → part (filled (at w c l j) v r) ≡ part r) w c l j lo hi
-    (λ _ s. ap (λ x. part (filled (at w c l j) x r)) s.1)
-    (λ g s. ap (λ x. part (filled (at w c l j) x r)) s.3 ∙ ap part (filled_a1 w c l j s.0 r g) ∙ a (λ e. n (g ∙ e)) s.0 r)
-    (λ o g s. ap (λ x. part (filled (at w c l j) x r)) s.3 ∙ ap part (filled_a2 w c l j s.0 r o) ∙ b (λ e. n (g ∙ e)) s.0 r)
-    (λ g. ⊎_elim (λ s. ap (λ x. part (filled (at w c l j) x r)) s.1 ∙ m (λ e. n (g ∙ e)) false r) (λ s. ap (λ x. part (filled (at w c l j) x r)) s.1 ∙ m (λ e. n (g ∙ e)) true r))
-    (λ _ _ _ _ s. ap (λ x. part (filled (at w c l j) x r)) s)
+    → Kept w c q part k
+kept_by w c q part k lt a b m j f v r n =
+    by_column (λ x. Shows x f v → part (filled_in j c v r) ≡ part r) w c q j lt
+    (λ _ s. ap (λ x. part (filled_in j c x r)) s.1)
+    (λ g s. ap (λ x. part (filled_in j c x r)) s.3 ∙ ap part (filled_a1 c j s.0 r g) ∙ a (λ e. n (g ∙ e)) s.0 r)
+    (λ o g s. ap (λ x. part (filled_in j c x r)) s.3 ∙ ap part (filled_a2 c j s.0 r o) ∙ b (λ e. n (g ∙ e)) s.0 r)
+    (λ g. ⊎_elim (λ s. ap (λ x. part (filled_in j c x r)) s.1 ∙ m (λ e. n (g ∙ e)) false r) (λ s. ap (λ x. part (filled_in j c x r)) s.1 ∙ m (λ e. n (g ∙ e)) true r))
+    (λ _ _ _ _ s. ap (λ x. part (filled_in j c x r)) s)
 
-kept_drawn : (w : ℕ) (c : Columns) (l : ℕ) → 2 ≤ l → l ≤ 97 → Kept w c l drawn_of c.a1
-kept_drawn w c l lo hi = kept_by w c l drawn_of c.a1 lo hi (λ n. absurd (n refl)) (λ _ _ _. refl) (λ _ _ _. refl)
+kept_drawn : (w : ℕ) (c : Columns) (q : ℕ) → q < 96 → Kept w c q drawn_of c.a1
+kept_drawn w c q lt = kept_by w c q drawn_of c.a1 lt (λ n. absurd (n refl)) (λ _ _ _. refl) (λ _ _ _. refl)
 
-kept_injected : (w : ℕ) (c : Columns) (l : ℕ) → 2 ≤ l → l ≤ 97 → Kept w c l injected_of c.a2
-kept_injected w c l lo hi = kept_by w c l injected_of c.a2 lo hi (λ _ _ _. refl) (λ n. absurd (n refl)) (λ _ _ _. refl)
+kept_injected : (w : ℕ) (c : Columns) (q : ℕ) → q < 96 → Kept w c q injected_of c.a2
+kept_injected w c q lt = kept_by w c q injected_of c.a2 lt (λ _ _ _. refl) (λ n. absurd (n refl)) (λ _ _ _. refl)
 
-kept_estimated : (w : ℕ) (c : Columns) (l : ℕ) → 2 ≤ l → l ≤ 97 → Kept w c l estimated_in c.state
-kept_estimated w c l lo hi = kept_by w c l estimated_in c.state lo hi (λ _ _ _. refl) (λ _ _ _. refl) (λ n. absurd (n refl))
+kept_estimated : (w : ℕ) (c : Columns) (q : ℕ) → q < 96 → Kept w c q estimated_in c.state
+kept_estimated w c q lt = kept_by w c q estimated_in c.state lt (λ _ _ _. refl) (λ _ _ _. refl) (λ n. absurd (n refl))
 
 -- THE READING OF A ROW
 
@@ -159,28 +159,23 @@ reading_by r = cond r.estimated Estimated (Measured (pos r.injected -ℤ pos r.d
 marked_by : (f : List ℕ) (r : Row) → Marks f r.estimated → Marked f r.injected r.drawn (reading_by r)
 marked_by f r = ⊎_elim (λ m. inl (m.0, cond-false r.estimated _ _ m.1)) (λ m. inr (m.0, cond-true r.estimated _ _ m.1))
 
-noted_is : (rs : List Reading) (l q : ℕ) (r : Row) → q + 2 ≡ l → q < 96 → r.drawn ≤ 1000000 → r.injected ≤ 1000000 → noted rs l r ≡ set rs q (reading_by r)
-noted_is rs l q r e h d i =
+noted_is : (rs : List Reading) (q : ℕ) (r : Row) → q < 96 → r.drawn ≤ 1000000 → r.injected ≤ 1000000 → noted_row rs q r ≡ set rs q (reading_by r)
+noted_is rs q r h d i =
     let s : reading_of r.injected r.drawn r.estimated ≡ Some (reading_by r)
     = cond-false (ltb 1000000 r.injected) _ _ (le-ltb 1000000 r.injected i) ∙ cond-false (ltb 1000000 r.drawn) _ _ (le-ltb 1000000 r.drawn d) in
-    let z : l - 2 ≡ q = omega arith in
-    cond-false (ltb l 2) _ _ (le-ltb l 2 (omega arith)) ∙ ap (λ n. noted_by rs n (reading_of r.injected r.drawn r.estimated)) z ∙ ap (noted_by rs q) s
-    ∙ placed_is rs q (reading_by r) h (reading_within r.injected r.drawn r.estimated (reading_by r) (sym s))
+    ap (noted_by rs q) s ∙ placed_is rs q (reading_by r) h (reading_within r.injected r.drawn r.estimated (reading_by r) (sym s))
 
 -- a row whose fields are taken is one as it should be, and its reading goes to its quarter
-pub row_forth : (w : ℕ) (c : Columns) (l q : ℕ) (fs : List (List ℕ)) (a b : Row) (rs : List Reading) → q + 2 ≡ l → q < 96 → Fits w c → length fs ≡ w → Fills w c l 1 fs a b
-    → RowOf w c q fs (reading_by b) × (noted rs l b ≡ set rs q (reading_by b))
-row_forth w c l q fs a b rs e h t wide s =
-    let lo : 2 ≤ l = omega arith in
-    let hi : l ≤ 97 = omega arith in
-    let z : l - 2 ≡ q = omega arith in
-    let n = column_says w c l nothing (Numbers (l - 2)) c.quarter (λ _ _ _ _ _ _. refl) (made_number w c l lo hi t) 1 fs a b t.quarter_from (omega (arith, t.quarter_to)) s in
-    let d = column_says w c l drawn_of Weighs c.a1 (kept_drawn w c l lo hi) (made_drawn w c l lo hi t) 1 fs a b t.a1_from (omega (arith, t.a1_to)) s in
-    let i = column_says w c l injected_of Weighs c.a2 (kept_injected w c l lo hi) (made_injected w c l lo hi t) 1 fs a b t.a2_from (omega (arith, t.a2_to)) s in
-    let m = column_says w c l estimated_in Marks c.state (kept_estimated w c l lo hi) (made_estimated w c l lo hi t) 1 fs a b t.state_from (omega (arith, t.state_to)) s in (
+pub row_forth : (w : ℕ) (c : Columns) (q : ℕ) (fs : List (List ℕ)) (a b : Row) (rs : List Reading) → q < 96 → Fits w c → length fs ≡ w → Fills w c q 1 fs a b
+    → RowOf w c q fs (reading_by b) × (noted_row rs q b ≡ set rs q (reading_by b))
+row_forth w c q fs a b rs lt t wide s =
+    let n = column_says w c q nothing (Numbers q) c.quarter (λ _ _ _ _ _ _. refl) (made_number w c q lt t) 1 fs a b t.quarter_from (omega (arith, t.quarter_to)) s in
+    let d = column_says w c q drawn_of Weighs c.a1 (kept_drawn w c q lt) (made_drawn w c q lt t) 1 fs a b t.a1_from (omega (arith, t.a1_to)) s in
+    let i = column_says w c q injected_of Weighs c.a2 (kept_injected w c q lt) (made_injected w c q lt t) 1 fs a b t.a2_from (omega (arith, t.a2_to)) s in
+    let m = column_says w c q estimated_in Marks c.state (kept_estimated w c q lt) (made_estimated w c q lt t) 1 fs a b t.state_from (omega (arith, t.state_to)) s in (
       record {
         wide = wide;
-        number = n ∙ ap decimal z;
+        number = n;
         drawn = b.drawn;
         drawn_to = d.0;
         drawn_in = d.1;
@@ -189,14 +184,14 @@ row_forth w c l q fs a b rs e h t wide s =
         injected_in = i.1;
         mark = marked_by (field_of c.state fs) b m;
       },
-      noted_is rs l q b e h d.0 i.0,
+      noted_is rs q b lt d.0 i.0,
     )
 
 -- AND BACK: a row as it should be is taken
 
 energy_one : (n m : ℕ) → n ≤ 1000000 → m ≤ 1000000 → energy n ≡ energy m → n ≡ m
 energy_one n m a b e =
-    let p : Place = record { line = 2; column = 1; width = 1; columns = record { quarter = 0; a1 = 1; a2 = 0; state = 0 } } in
+    let p : Place = at 1 (record { quarter = 0; a1 = 1; a2 = 0; state = 0 }) 0 1 in
     let s : Amount n ≡ Amount m = says_one p (energy n) (Amount n) (Amount m) (n, a, refl, refl) (m, b, e, refl) in
     cc
 
@@ -214,33 +209,32 @@ row_one w c q fs r s x y =
     (subst (λ n. Marked (field_of c.state fs) x.injected n s) (sym d) (subst (λ n. Marked (field_of c.state fs) n y.drawn s) (sym i) y.mark))
 
 abbrev Speaks : ℕ → Columns → ℕ → ℕ → List (List ℕ) → Type 0
-Speaks w c l j fs = (i : ℕ) → j ≤ i → i < j + length fs → (v : Value) × Shows (kind_at (at w c l i)) (get_or fs (i - j) []) v
+Speaks w c q j fs = (i : ℕ) → j ≤ i → i < j + length fs → (v : Value) × Shows (kind_at (at w c q i)) (get_or fs (i - j) []) v
 
-fills_any : (w : ℕ) (c : Columns) (l j : ℕ) (fs : List (List ℕ)) (a : Row) → Speaks w c l j fs → (b : Row) × Fills w c l j fs a b
-fills_any w c l j [] a h = (a, refl)
-fills_any w c l j (f ∷ fs) a h =
+fills_any : (w : ℕ) (c : Columns) (q j : ℕ) (fs : List (List ℕ)) (a : Row) → Speaks w c q j fs → (b : Row) × Fills w c q j fs a b
+fills_any w c q j [] a h = (a, refl)
+fills_any w c q j (f ∷ fs) a h =
     let o = h j (omega arith) (omega arith) in
     let z : j - j ≡ 0 = omega arith in
-    let s : Shows (kind_at (at w c l j)) f o.0 = subst (λ n. Shows (kind_at (at w c l j)) (get_or (f ∷ fs) n []) o.0) z o.1 in
-    let i = fills_any w c l (j + 1) fs (filled (at w c l j) o.0 a) (λ i lo hi.
+    let s : Shows (kind_at (at w c q j)) f o.0 = subst (λ n. Shows (kind_at (at w c q j)) (get_or (f ∷ fs) n []) o.0) z o.1 in
+    let i = fills_any w c q (j + 1) fs (filled_in j c o.0 a) (λ i lo hi.
     let g = h i (omega arith) (omega arith) in
     let y : i - j ≡ suc (i - (j + 1)) = omega arith in
-    (g.0, subst (λ n. Shows (kind_at (at w c l i)) (get_or (f ∷ fs) n []) g.0) y g.1)) in
+    (g.0, subst (λ n. Shows (kind_at (at w c q i)) (get_or (f ∷ fs) n []) g.0) y g.1)) in
     (i.0, (o.0, s, i.1))
 
-speaks : (w : ℕ) (c : Columns) (l q : ℕ) (fs : List (List ℕ)) (r : Reading) → q + 2 ≡ l → q < 96 → RowOf w c q fs r → Speaks w c l 1 fs
-speaks w c l q fs r e h x j lo hi =
-    let z : q ≡ l - 2 = omega arith in
-    by_column (λ k. (v : Value) × Shows k (field_of j fs) v) w c l j (omega arith) (omega arith)
-    (λ g. (Passed, (ap (λ n. field_of n fs) g ∙ x.number ∙ ap decimal z, refl)))
+speaks : (w : ℕ) (c : Columns) (q : ℕ) (fs : List (List ℕ)) (r : Reading) → q < 96 → RowOf w c q fs r → Speaks w c q 1 fs
+speaks w c q fs r lt x j lo hi =
+    by_column (λ k. (v : Value) × Shows k (field_of j fs) v) w c q j lt
+    (λ g. (Passed, (ap (λ n. field_of n fs) g ∙ x.number, refl)))
     (λ g. (Amount x.drawn, (x.drawn, x.drawn_to, ap (λ n. field_of n fs) g ∙ x.drawn_in, refl)))
     (λ _ g. (Amount x.injected, (x.injected, x.injected_to, ap (λ n. field_of n fs) g ∙ x.injected_in, refl)))
     (λ g. ⊎_elim (λ m. (Mark false, inl (ap (λ n. field_of n fs) g ∙ m.0, refl))) (λ m. (Mark true, inr (ap (λ n. field_of n fs) g ∙ m.0, refl))) x.mark)
     (λ _ _ _ _. (Passed, refl))
 
-pub row_back : (w : ℕ) (c : Columns) (l q : ℕ) (fs : List (List ℕ)) (a : Row) (rs : List Reading) (r : Reading) → q + 2 ≡ l → q < 96 → Fits w c → RowOf w c q fs r
-    → (b : Row) × Fills w c l 1 fs a b × (noted rs l b ≡ set rs q r)
-row_back w c l q fs a rs r e h t x =
-    let o = fills_any w c l 1 fs a (speaks w c l q fs r e h x) in
-    let f = row_forth w c l q fs a o.0 rs e h t x.wide o.1 in
+pub row_back : (w : ℕ) (c : Columns) (q : ℕ) (fs : List (List ℕ)) (a : Row) (rs : List Reading) (r : Reading) → q < 96 → Fits w c → RowOf w c q fs r
+    → (b : Row) × Fills w c q 1 fs a b × (noted_row rs q b ≡ set rs q r)
+row_back w c q fs a rs r lt t x =
+    let o = fills_any w c q 1 fs a (speaks w c q fs r lt x) in
+    let f = row_forth w c q fs a o.0 rs lt t x.wide o.1 in
     (o.0, o.1, f.1 ∙ ap (set rs q) (row_one w c q fs (reading_by o.0) r f.0 x))

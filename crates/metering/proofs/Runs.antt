@@ -1,17 +1,27 @@
 -- The machine gives what the text means.
 use Rattle.std.proofs.Common.{◌≡◌, ℕ, true, false, cond, eqb, List, [], ◌∷◌, Some, None, Ok, Err, Option, Result, sym, refl, ap, ◌∙◌, subst, ⊎_elim}
 use Rattle.std.proofs.lemmas.Bool.{cases_Bool, cond-false, eqb-true}
-use Rattle.metering.specs.declared.columns.Kind.TheVariants.{Name, Beyond}
-use Rattle.metering.specs.declared.columns.Place.{Place}
+use Rattle.metering.specs.declared.place.Kind.TheVariants.{Name, Beyond}
+use Rattle.metering.specs.declared.place.InRow.{InRow}
+use Rattle.metering.specs.declared.place.Place.{Place}
+use Rattle.metering.specs.declared.place.Place.TheVariants.{Header as AtHeader, Row as AtRow}
+use Rattle.metering.specs.declared.reader.Row.{Row as RowSoFar}
+use Rattle.metering.specs.declared.reading.Reading.{Reading}
 use Rattle.metering.specs.declared.cell.Cell.{Cell}
 use Rattle.metering.specs.declared.fault.Fault.{Fault}
 use Rattle.metering.specs.Text.{Text, field, rest, separator, grow, cut}
 use Rattle.metering.specs.Cells.{start, stepped, finished}
-use Rattle.metering.specs.Places.{fault_at, kind_at}
+use Rattle.metering.specs.Places.{row_fault, fault_at, row_kind, kind_at}
 use Rattle.metering.specs.Progress.{Progress, begun}
 use Rattle.metering.specs.Meaning.{Taken, judged, early, ended, Goes, Means}
 use Rattle.metering.specs.Machine.{fresh, within, ends, proceed, runs, begin}
 use Rattle.metering.proofs.Fields.{onward, ran, read_from, name_ran, reads_at}
+
+abbrev pub stage : Place → RowSoFar → List Reading → Progress
+stage p r rs = record { place = p; row = r; readings = rs }
+
+pub kind_96 : (p : InRow) → p.quarter ≡ 96 → row_kind p ≡ Beyond
+kind_96 p e = rw e
 
 -- the text ends inside a field: its state may have refused a byte before
 abbrev ends_in : Progress → Option Cell → Result Taken Fault
@@ -46,32 +56,22 @@ runs_from h c (b ∷ bs) =
           [ None ↦ refl | Some d ↦ runs_from h d bs ] ∙ grown h c b (cut bs)
     ]
 
-pub kind_98 : (p : Place) → p.line ≡ 98 → kind_at p ≡ Beyond
-kind_98 p e = rw e
+after_last : (p : Option Cell) (h : Progress) (z : Result Taken Fault) → ended h [] ≡ z → Err (fault_at h.place) ≡ z → ends_in h p ≡ z
+after_last None h z a b = b
+after_last (Some c) h z a b = a
 
-pub kind_1 : (p : Place) → p.line ≡ 1 → kind_at p ≡ Name
-kind_1 p e = rw e
-
-not_one : (p : Place) → p.line ≡ 98 → eqb p.line 1 ≡ false
-not_one p e = rw e
-
-either_way : (h : Progress) (o : Option Cell) (z : Result Taken Fault) → ended h [] ≡ z → Err (fault_at h.place) ≡ z → ends_in h o ≡ z
-either_way h None z a b = b
-either_way h (Some c) z a b = a
+-- a field that the end of the text cuts off, after its first byte
+cut_off : (p : Place) (a : RowSoFar) (rs : List Reading) (b : ℕ) (bs : List ℕ) → means_from (stage p a rs) (start (kind_at p)) (rest (b ∷ bs)) ≡ Err (early p)
+cut_off (AtHeader p) a rs b bs = ap (ends_in (stage (AtHeader p) a rs)) (name_ran (b ∷ bs)).1
+cut_off (AtRow p) a rs b bs =
+    ⊎_elim
+    (λ e. ap (λ k. ends_in (stage (AtRow p) a rs) (ran (start k) (b ∷ bs))) (kind_96 p (eqb-true p.quarter 96 e)))
+    (λ e. after_last (ran (start (row_kind p)) (b ∷ bs)) (stage (AtRow p) a rs) (Err (row_fault p)) (cond-false _ _ _ e) refl)
+    (cases_Bool (eqb p.quarter 96))
 
 at_end : (h : Progress) (r : List ℕ) → means_from h (start (kind_at h.place)) (rest r) ≡ ended h r
 at_end h [] = refl
-at_end h (b ∷ bs) =
-    ⊎_elim
-    (λ e. let l = eqb-true h.place.line 98 e in
-    ap (λ k. ends_in h (ran (start k) (b ∷ bs))) (kind_98 h.place l) ∙ ap Err (sym (cond-false _ _ _ (not_one h.place l))))
-    (λ e. let a = cond-false (eqb h.place.line 98) (Ok (record { readings = h.readings; columns = h.place.columns; width = h.place.width })) (Err (early h)) e in
-    ⊎_elim
-    (λ u. let n = name_ran (b ∷ bs) in
-    ap (λ k. ends_in h (ran (start k) (b ∷ bs))) (kind_1 h.place (eqb-true h.place.line 1 u)) ∙ ap (ends_in h) n.1 ∙ a)
-    (λ u. either_way h (ran (start (kind_at h.place)) (b ∷ bs)) (Err (early h)) a (ap Err (sym (cond-false _ _ _ u))))
-    (cases_Bool (eqb h.place.line 1)))
-    (cases_Bool (eqb h.place.line 98))
+at_end h (b ∷ bs) = cut_off h.place h.row h.readings b bs
 
 means_of : (h : Progress) (t : Text) → Means h t (means_from h (start (kind_at h.place)) t)
 means_of h (rest r) = at_end h r

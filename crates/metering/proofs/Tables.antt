@@ -4,7 +4,7 @@ use Rattle.std.proofs.lemmas.List.{ext_get_or}
 use Rattle.std.proofs.lemmas.Bool.{cond-true, eq-eqb}
 use Rattle.metering.specs.declared.reading.Reading.{Reading}
 use Rattle.metering.specs.declared.reading.Reading.TheVariants.{Measured}
-use Rattle.metering.specs.declared.columns.Value.{Value}
+use Rattle.metering.specs.declared.place.Value.{Value}
 use Rattle.metering.specs.declared.columns.Columns.{Columns}
 use Rattle.metering.specs.declared.reader.Row.{Row}
 use Rattle.metering.specs.declared.fault.Fault.{Fault}
@@ -12,13 +12,12 @@ use Rattle.metering.specs.Readings.{reading_in}
 use Rattle.metering.specs.Text.{Text, field, rest}
 use Rattle.metering.specs.Places.{kind_at}
 use Rattle.metering.specs.Cells.{Read}
-use Rattle.metering.specs.Progress.{Progress}
 use Rattle.metering.specs.Meaning.{Taken, judged, Goes, Means}
 use Rattle.metering.specs.Export.{PlainLines, RowOf}
-use Rattle.metering.proofs.Runs.{kind_98}
+use Rattle.metering.proofs.Runs.{kind_96, stage}
 use Rattle.metering.proofs.Cutting.{Clean, laid, lines}
 use Rattle.metering.proofs.Judged.{not_both}
-use Rattle.metering.proofs.Lines.{at, stage, line_forth, line_back}
+use Rattle.metering.proofs.Lines.{row_at, at, line_forth, line_back}
 use Rattle.metering.proofs.Rows.{Fits, reading_by, row_forth, row_back}
 
 -- each of n rows from quarter q on says the reading of its quarter
@@ -58,15 +57,15 @@ pub record Rowed (w : ℕ) (c : Columns) (q n : ℕ) (rs : List Reading) (x : Te
   pub each : Each w c q n rows t.readings
   pub before : Same q t.readings rs
 
-no_field : (h : Progress) (t : Taken) (s : ℕ) (f : List ℕ) (y : Text) → h.place.line ≡ 98 → (o : Option Value) → Read (kind_at h.place) f o
-    → Goes (judged h s o) (λ n. Means n y (Ok t)) (λ e. ◌≡◌ {A = Result Taken Fault} (Ok t) (Err e)) → ⊥
-no_field h t s f y e None g b = not_both t _ b
-no_field h t s f y e (Some v) g b = subst (λ k. Read k f (Some v)) (kind_98 h.place e) g
+no_field : (w : ℕ) (c : Columns) (q : ℕ) (a : Row) (rs : List Reading) (t : Taken) (s : ℕ) (f : List ℕ) (y : Text) → q ≡ 96 → (o : Option Value) → Read (kind_at (at w c q 1)) f o
+    → Goes (judged (stage (at w c q 1) a rs) s o) (λ n. Means n y (Ok t)) (λ e. ◌≡◌ {A = Result Taken Fault} (Ok t) (Err e)) → ⊥
+no_field w c q a rs t s f y e None g b = not_both t _ b
+no_field w c q a rs t s f y e (Some v) g b = subst (λ k. Read k f (Some v)) (kind_96 (row_at w c q 1) e) g
 
-last : (w : ℕ) (c : Columns) (l q : ℕ) (a : Row) (rs : List Reading) (x : Text) (t : Taken) → l ≡ 98 → length rs ≡ 96
-    → Means (stage (at w c l 1) a rs) x (Ok t) → Rowed w c q 0 rs x t
-last w c l q a rs (rest []) t e full m =
-    let g : ◌≡◌ {A = Result Taken Fault} (Ok t) (Ok (record { readings = rs; columns = c; width = w })) = m ∙ cond-true (eqb l 98) _ _ (eq-eqb l 98 e) in
+last : (w : ℕ) (c : Columns) (q : ℕ) (a : Row) (rs : List Reading) (x : Text) (t : Taken) → q ≡ 96 → length rs ≡ 96
+    → Means (stage (at w c q 1) a rs) x (Ok t) → Rowed w c q 0 rs x t
+last w c q a rs (rest []) t e full m =
+    let g : ◌≡◌ {A = Result Taken Fault} (Ok t) (Ok (record { readings = rs; columns = c; width = w })) = m ∙ cond-true (eqb q 96) _ _ (eq-eqb q 96 e) in
     let u : t ≡ record { readings = rs; columns = c; width = w } = cc in
     record {
       rows = [];
@@ -79,19 +78,19 @@ last w c l q a rs (rest []) t e full m =
       each = λ k h. absurd (omega arith);
       before = λ k h. ap (λ (x : Taken). reading_in x.readings k) u;
     }
-last w c l q a rs (rest (b ∷ bs)) t e full m = absurd (not_both t _ m)
-last w c l q a rs (field f s y) t e full m = absurd (no_field (stage (at w c l 1) a rs) t s f y e m.0 m.1 m.2)
+last w c q a rs (rest (b ∷ bs)) t e full m = absurd (not_both t _ m)
+last w c q a rs (field f s y) t e full m = absurd (no_field w c q a rs t s f y e m.0 m.1 m.2)
 
-pub table_forth : (n : ℕ) (w : ℕ) (c : Columns) (l q : ℕ) (a : Row) (rs : List Reading) (x : Text) (t : Taken) → q + 2 ≡ l → q + n ≡ 96 → Fits w c → length rs ≡ 96 → Clean x
-    → Means (stage (at w c l 1) a rs) x (Ok t) → Rowed w c q n rs x t
-table_forth zero w c l q a rs x t e g fits full cl m = last w c l q a rs x t (omega arith) full m
-table_forth (suc n) w c l q a rs x t e g fits full cl m =
-    let b = line_forth w c l 1 a rs x t (omega arith) (omega arith) cl m in
+pub table_forth : (n : ℕ) (w : ℕ) (c : Columns) (q : ℕ) (a : Row) (rs : List Reading) (x : Text) (t : Taken) → q + n ≡ 96 → Fits w c → length rs ≡ 96 → Clean x
+    → Means (stage (at w c q 1) a rs) x (Ok t) → Rowed w c q n rs x t
+table_forth zero w c q a rs x t g fits full cl m = last w c q a rs x t (omega arith) full m
+table_forth (suc n) w c q a rs x t g fits full cl m =
     let h : q < 96 = omega arith in
-    let r = row_forth w c l q (b.first ∷ b.others) a b.row rs e h fits (omega (arith, b.wide)) b.fills in
+    let b = line_forth w c q 1 a rs x t h cl m in
+    let r = row_forth w c q (b.first ∷ b.others) a b.row rs h fits (omega (arith, b.wide)) b.fills in
     let v : Reading = reading_by b.row in
-    let m2 = subst (λ z. Means (stage (at w c (l + 1) 1) b.row z) b.beyond (Ok t)) r.1 b.means in
-    let i = table_forth n w c (l + 1) (q + 1) b.row (set rs q v) b.beyond t (omega arith) (omega arith) fits (length-set rs q v ∙ full) b.clean m2 in
+    let m2 = subst (λ z. Means (stage (at w c (q + 1) 1) b.row z) b.beyond (Ok t)) r.1 b.means in
+    let i = table_forth n w c (q + 1) b.row (set rs q v) b.beyond t (omega arith) fits (length-set rs q v ∙ full) b.clean m2 in
     let p : q < length rs = omega arith in
     let u : reading_in t.readings q ≡ v = i.before q (omega arith) ∙ get_or-set_same rs q v (Measured (pos 0)) p in
     record {
@@ -114,23 +113,23 @@ same_more q ts rs h f =
     (λ k o. f k o ∙ sym (same_set q k rs (reading_in ts q) o))
     (sym (get_or-set_same rs q (reading_in ts q) (Measured (pos 0)) h))
 
-pub table_back : (rows : List (List (List ℕ))) (l q : ℕ) (a : Row) (rs : List Reading) (t : Taken) → q + 2 ≡ l → q + length rows ≡ 96 → Fits t.width t.columns
+pub table_back : (rows : List (List (List ℕ))) (q : ℕ) (a : Row) (rs : List Reading) (t : Taken) → q + length rows ≡ 96 → Fits t.width t.columns
     → length rs ≡ 96 → length t.readings ≡ 96 → Each t.width t.columns q (length rows) rows t.readings → Same q t.readings rs
-    → Means (stage (at t.width t.columns l 1) a rs) (lines rows) (Ok t)
-table_back [] l q a rs t e g fits full whole each before =
+    → Means (stage (at t.width t.columns q 1) a rs) (lines rows) (Ok t)
+table_back [] q a rs t g fits full whole each before =
     let u : t.readings ≡ rs = ext_get_or (Measured (pos 0)) t.readings rs (whole ∙ sym full) (λ k h. before k (omega arith)) in
     ap (λ x. Ok (record { readings = x; columns = t.columns; width = t.width })) u
-    ∙ sym (cond-true (eqb l 98) (Ok (record { readings = rs; columns = t.columns; width = t.width })) _ (eq-eqb l 98 (omega arith)))
-table_back ([] ∷ rows) l q a rs t e g fits full whole each before =
+    ∙ sym (cond-true (eqb q 96) (Ok (record { readings = rs; columns = t.columns; width = t.width })) _ (eq-eqb q 96 (omega arith)))
+table_back ([] ∷ rows) q a rs t g fits full whole each before =
     let x = each_first t.width t.columns q (length rows) [] rows t.readings each in
     let y = x.wide in
     absurd (omega arith)
-table_back ((f ∷ fs) ∷ rows) l q a rs t e g fits full whole each before =
+table_back ((f ∷ fs) ∷ rows) q a rs t g fits full whole each before =
     let x = each_first t.width t.columns q (length rows) (f ∷ fs) rows t.readings each in
     let h : q < 96 = omega arith in
     let v : Reading = reading_in t.readings q in
-    let b = row_back t.width t.columns l q (f ∷ fs) a rs v e h fits x in
-    let i = table_back rows (l + 1) (q + 1) b.0 (set rs q v) t (omega arith) (omega arith) fits (length-set rs q v ∙ full) whole
+    let b = row_back t.width t.columns q (f ∷ fs) a rs v h fits x in
+    let i = table_back rows (q + 1) b.0 (set rs q v) t (omega arith) fits (length-set rs q v ∙ full) whole
     (each_rest t.width t.columns q (length rows) (f ∷ fs) rows t.readings each) (same_more q t.readings rs (omega arith) before) in
-    line_back t.width t.columns l 1 f fs a b.0 rs (lines rows) (Ok t) (omega arith) (omega arith) (omega (arith, x.wide)) b.1
-    (subst (λ z. Means (stage (at t.width t.columns (l + 1) 1) b.0 z) (lines rows) (Ok t)) (sym b.2) i)
+    line_back t.width t.columns q 1 f fs a b.0 rs (lines rows) (Ok t) h (omega (arith, x.wide)) b.1
+    (subst (λ z. Means (stage (at t.width t.columns (q + 1) 1) b.0 z) (lines rows) (Ok t)) (sym b.2) i)

@@ -3,10 +3,10 @@ use Rattle.std.specs.Prelude.{◌≡◌, ℕ, ◌+◌, ◌-◌, ◌*◌, ◌/◌
 use Rattle.std.specs.Str.{bytes_eq}
 use Rattle.metering.specs.declared.columns.Column.{Column}
 use Rattle.metering.specs.declared.columns.Column.TheVariants.{Quarter, A1, A2, State, Other}
-use Rattle.metering.specs.declared.columns.Kind.{Kind}
-use Rattle.metering.specs.declared.columns.Kind.TheVariants.{Name, Count, Energy, Letter, Skipped, Beyond}
-use Rattle.metering.specs.declared.columns.Value.{Value}
-use Rattle.metering.specs.declared.columns.Value.TheVariants.{Named, Passed, Amount, Mark}
+use Rattle.metering.specs.declared.place.Kind.{Kind}
+use Rattle.metering.specs.declared.place.Kind.TheVariants.{Name, Count, Energy, Letter, Skipped, Beyond}
+use Rattle.metering.specs.declared.place.Value.{Value}
+use Rattle.metering.specs.declared.place.Value.TheVariants.{Named, Passed, Amount, Mark}
 use Rattle.metering.specs.declared.cell.Name.{Name as Spelling}
 use Rattle.metering.specs.declared.cell.Cell.{Cell}
 use Rattle.metering.specs.declared.cell.Cell.TheVariants.{Spelled, Long, Number, Whole, Fraction, Letter as AtLetter, Measured, Estimated, Skipped as Skipping, Beyond as Shut}
@@ -63,70 +63,30 @@ stepped (Whole v) b =
     (cond (b == 44) (Some (Fraction v 0)) None)
 stepped (Fraction v k) b = cond (digit b) (cond (nat_lt k 3) (cond (nat_le v 100000) (Some (Fraction (v * 10 + (b - 48)) (k + 1))) None) None) None
 stepped AtLetter b = cond (b == 77) (Some Measured) (cond (b == 69) (Some Estimated) None)
-stepped Measured b = None
-stepped Estimated b = None
 stepped Skipping b = Some Skipping
-stepped Shut b = None
+stepped c b = None
 
 abbrev pub as_name : Cell → Option Value
 as_name (Spelled n) = cond (nat_le n.len 8) (Some (Named (column_of (take n.len n.bytes)))) None
 as_name Long = Some (Named Other)
-as_name Number = None
-as_name (Whole v) = None
-as_name (Fraction v k) = None
-as_name AtLetter = None
-as_name Measured = None
-as_name Estimated = None
-as_name Skipping = None
-as_name Shut = None
+as_name c = None
 
 abbrev pub as_count : ℕ → Cell → Option Value
-as_count q (Spelled n) = None
-as_count q Long = None
-as_count q Number = None
 as_count q (Whole v) = cond (v == q) (Some Passed) None
-as_count q (Fraction v k) = None
-as_count q AtLetter = None
-as_count q Measured = None
-as_count q Estimated = None
-as_count q Skipping = None
-as_count q Shut = None
+as_count q c = None
 
 abbrev pub as_energy : Cell → Option Value
-as_energy (Spelled n) = None
-as_energy Long = None
-as_energy Number = None
-as_energy (Whole v) = None
 as_energy (Fraction v k) = cond (k == 3) (cond (nat_le v 1000000) (Some (Amount v)) None) None
-as_energy AtLetter = None
-as_energy Measured = None
-as_energy Estimated = None
-as_energy Skipping = None
-as_energy Shut = None
+as_energy c = None
 
 abbrev pub as_letter : Cell → Option Value
-as_letter (Spelled n) = None
-as_letter Long = None
-as_letter Number = None
-as_letter (Whole v) = None
-as_letter (Fraction v k) = None
-as_letter AtLetter = None
 as_letter Measured = Some (Mark false)
 as_letter Estimated = Some (Mark true)
-as_letter Skipping = None
-as_letter Shut = None
+as_letter c = None
 
 abbrev pub as_skipped : Cell → Option Value
-as_skipped (Spelled n) = None
-as_skipped Long = None
-as_skipped Number = None
-as_skipped (Whole v) = None
-as_skipped (Fraction v k) = None
-as_skipped AtLetter = None
-as_skipped Measured = None
-as_skipped Estimated = None
 as_skipped Skipping = Some Passed
-as_skipped Shut = None
+as_skipped c = None
 
 abbrev pub finished : Kind → Cell → Option Value
 finished Name c = as_name c

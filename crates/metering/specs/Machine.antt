@@ -1,6 +1,6 @@
 -- The machine that reads a text byte by byte.
 use Rattle.std.specs.Prelude.{ℕ, cond, List, [], ◌∷◌, Some, None, Ok, Err, Option, Result}
-use Rattle.metering.specs.declared.columns.Kind.TheVariants.{Name}
+use Rattle.metering.specs.declared.place.Kind.TheVariants.{Name}
 use Rattle.metering.specs.declared.cell.Cell.{Cell}
 use Rattle.metering.specs.declared.reader.Reader.{Reader}
 use Rattle.metering.specs.declared.reader.Imported.{Imported}

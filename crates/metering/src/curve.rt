@@ -51,10 +51,6 @@ impl Curve {
     pub fn reading(&self, quarter: u32) -> Option<Reading>
         ensures { result ≡ reading_at self.now.readings quarter }
     {
-        if quarter < 96 {
-            Some(self.readings[quarter as usize])
-        } else {
-            None
-        }
+        self.readings.get(quarter as usize).copied()
     }
 }

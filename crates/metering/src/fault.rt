@@ -9,7 +9,8 @@ use std::fmt;
 pub enum Fault {
     // a list of another length than 96, an energy beyond its limit or an unknown mark
     Lists,
-    // the first line, at a column; 0 where a name is missing, the text is too long or ends there
+    // the first line, at a column; 0 where a name is missing, the text is too long or ends there: a refusal
+    // tells the number, and the definitions of an import's meaning name it so
     Header { column: u32 },
     Row { line: u32, column: u32 },
 }
@@ -19,24 +20,9 @@ impl Fault {
         ensures { result ≡ refusal_of self }
     {
         match self {
-            Fault::Lists => Refusal {
-                number: 7,
-                layer: Layer::Import,
-                first: 0,
-                second: 0,
-            },
-            Fault::Header { column } => Refusal {
-                number: 8,
-                layer: Layer::Import,
-                first: 1,
-                second: column,
-            },
-            Fault::Row { line, column } => Refusal {
-                number: 9,
-                layer: Layer::Import,
-                first: line,
-                second: column,
-            },
+            Fault::Lists => Refusal::new(7, Layer::Import, 0, 0),
+            Fault::Header { column } => Refusal::new(8, Layer::Import, 1, column),
+            Fault::Row { line, column } => Refusal::new(9, Layer::Import, line, column),
         }
     }
 }
@@ -52,18 +38,14 @@ impl fmt::Display for Fault {
                 f,
                 "the text is longer than 65535 bytes, ends in its first line, or that line lacks one of QUARTER, A1, A2 and STATE"
             ),
-            Fault::Header { column } => {
-                let c = *column;
-                write!(
-                    f,
-                    "the first line repeats a name or has too many columns at column {c}"
-                )
-            }
-            Fault::Row { line, column } => {
-                let l = *line;
-                let c = *column;
-                write!(f, "line {l} breaks the format at column {c}")
-            }
+            Fault::Header { column } => write!(
+                f,
+                "the first line repeats a name or has too many columns at column {column}"
+            ),
+            Fault::Row { line, column } => write!(
+                f,
+                "line {line} breaks the format at column {column}"
+            ),
         }
     }
 }

@@ -1,12 +1,12 @@
 // A curve from three lists.
 ghost use Rattle.std.specs.Prelude.{◌≡◌};
-ghost use Rattle.metering.specs.Forming.{Forms, marked};
+ghost use Rattle.metering.specs.Forming.{Forms, formed_by, marked};
 
 use crate::curve::Curve;
 use crate::fault::Fault;
-use crate::reading::reading_of;
+use crate::reading::{Reading, reading_of};
 
-// What a mark says: 0 measured, 1 estimated.
+// What a mark says: 0 measured, 1 estimated; a bool, as `reading_of` takes it.
 fn estimated_by(mark: u8) -> Option<bool>
     ensures { result ≡ marked mark }
 {
@@ -17,6 +17,13 @@ fn estimated_by(mark: u8) -> Option<bool>
     }
 }
 
+// The reading of a quarter, where the three lists give one.
+fn formed(injected: u32, drawn: u32, mark: u8) -> Option<Reading>
+    ensures { result ≡ formed_by injected drawn (marked mark) }
+{
+    reading_of(injected, drawn, estimated_by(mark)?)
+}
+
 // The curve of 96 injected energies (A2), 96 drawn ones (A1) and 96 marks.
 pub fn form(injected: &[u32], drawn: &[u32], marks: &[u8]) -> Result<Curve, Fault>
     ensures { Forms injected.now drawn.now marks.now result }
@@ -25,13 +32,9 @@ pub fn form(injected: &[u32], drawn: &[u32], marks: &[u8]) -> Result<Curve, Faul
         return Err(Fault::Lists);
     }
     let mut curve = Curve::blank();
+    // By number: of three lists that are zipped, the check does not see that the items stand at one quarter.
     for q in 0..96 {
-        let Some(estimated) = estimated_by(marks[q]) else {
-            return Err(Fault::Lists);
-        };
-        let Some(reading) = reading_of(injected[q], drawn[q], estimated) else {
-            return Err(Fault::Lists);
-        };
+        let reading = formed(injected[q], drawn[q], marks[q]).ok_or(Fault::Lists)?;
         curve.place(q, reading);
     }
     Ok(curve)

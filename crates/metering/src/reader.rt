@@ -1,19 +1,22 @@
 // The machine that reads an export: its own state and the byte decide the next state.
 ghost use Rattle.std.specs.Prelude.{◌≡◌};
 ghost use Rattle.metering.specs.Progress.{filled, noted};
+ghost use Rattle.metering.specs.Meaning.{ended_at};
 ghost use Rattle.metering.specs.Machine.{machine_of, begin, next, ends, verdict, after, outcome, runs};
 
 use crate::cell::Cell;
-use crate::columns::{Columns, Kind, Place, Value};
+use crate::columns::{Columns, Sought};
 use crate::curve::Curve;
 use crate::fault::Fault;
+use crate::place::{InHeader, Kind, Place, Value};
 use crate::reading::reading_of;
 
 // What has been read of a row.
-#[derive(Clone, Copy)]
+#[derive(Clone, Copy, Default)]
 pub struct Row {
     pub drawn: u32,
     pub injected: u32,
+    // a bool, as `reading_of` takes it
     pub estimated: bool,
 }
 
@@ -22,6 +25,9 @@ impl Row {
     fn with(self, place: Place, value: Value) -> Row
         ensures { result ≡ filled place value self }
     {
+        let Place::Row(place) = place else {
+            return self;
+        };
         match value {
             Value::Amount(wh) if place.column == place.columns.a1 => Row { drawn: wh, ..self },
             Value::Amount(wh) => Row {
@@ -34,17 +40,16 @@ impl Row {
     }
 }
 
-// The row of a line gives the reading of its quarter.
-fn note(curve: &mut Curve, line: u8, row: Row)
-    ensures { curve.new.readings ≡ noted curve.old.readings line row }
+// A row gives the reading of its quarter.
+fn note(curve: &mut Curve, place: Place, row: Row)
+    ensures { curve.new.readings ≡ noted curve.old.readings place row }
 {
-    if line < 2 {
-        return;
-    }
-    let Some(reading) = reading_of(row.injected, row.drawn, row.estimated) else {
+    let Place::Row(place) = place else {
         return;
     };
-    curve.place((line - 2) as usize, reading);
+    if let Some(reading) = reading_of(row.injected, row.drawn, row.estimated) {
+        curve.place(usize::from(place.quarter), reading);
+    }
 }
 
 // A curve, and where in the export it came from.
@@ -68,22 +73,11 @@ impl Reader {
         ensures { machine_of result ≡ begin }
     {
         Reader {
-            place: Place {
-                line: 1,
+            place: Place::Header(InHeader {
                 column: 1,
-                width: 0,
-                columns: Columns {
-                    quarter: 0,
-                    a1: 0,
-                    a2: 0,
-                    state: 0,
-                },
-            },
-            row: Row {
-                drawn: 0,
-                injected: 0,
-                estimated: false,
-            },
+                sought: Sought::default(),
+            }),
+            row: Row::default(),
             curve: Curve::blank(),
             cell: Cell::start(Kind::Name),
         }
@@ -94,13 +88,14 @@ impl Reader {
         ensures result { result ≡ verdict (ends (machine_of self.old) separator) }
         ensures state { machine_of self.new ≡ after (machine_of self.old) (ends (machine_of self.old) separator) }
     {
-        let Some(value) = self.cell.value(self.place.kind()) else {
-            return Err(self.place.fault());
-        };
+        let value = self
+            .cell
+            .value(self.place.kind())
+            .ok_or_else(|| self.place.fault())?;
         let place = self.place.after(value, separator)?;
         let row = self.row.with(self.place, value);
         if separator == b'\n' {
-            note(&mut self.curve, self.place.line, row);
+            note(&mut self.curve, self.place, row);
         }
         self.row = row;
         self.place = place;
@@ -112,13 +107,25 @@ impl Reader {
         ensures result { result ≡ verdict (next (machine_of self.old) byte) }
         ensures state { machine_of self.new ≡ after (machine_of self.old) (next (machine_of self.old) byte) }
     {
-        if matches!(byte as char, ';' | '\n') {
-            return self.end_field(byte);
+        match byte as char {
+            ';' | '\n' => self.end_field(byte),
+            _ => self.cell.step(byte).ok_or_else(|| self.place.fault()),
         }
-        if !self.cell.step(byte) {
-            return Err(self.place.fault());
+    }
+
+    // The text may end after the row of quarter 95.
+    fn end(self) -> Result<Imported, Fault>
+        ensures { outcome result ≡ ended_at self.place self.curve.readings }
+    {
+        match self.place {
+            Place::Header(_) => Err(Fault::Header { column: 0 }),
+            Place::Row(place) if place.quarter == 96 => Ok(Imported {
+                curve: self.curve,
+                columns: place.columns,
+                width: place.width,
+            }),
+            Place::Row(_) => Err(self.place.fault()),
         }
-        Ok(())
     }
 
     // The whole text, and that it ends where it should.
@@ -128,16 +135,6 @@ impl Reader {
         for byte in text {
             self.step(*byte)?;
         }
-        if self.place.line == 98 {
-            return Ok(Imported {
-                curve: self.curve,
-                columns: self.place.columns,
-                width: self.place.width,
-            });
-        }
-        if self.place.line == 1 {
-            return Err(Fault::Header { column: 0 });
-        }
-        Err(self.place.fault())
+        self.end()
     }
 }

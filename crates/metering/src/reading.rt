@@ -1,6 +1,7 @@
 // One quarter of an hour at a meter.
 ghost use Rattle.std.specs.Prelude.{◌≡◌};
 ghost use Rattle.metering.specs.Readings.{reading_of, within};
+ghost use Rattle.metering.specs.Summary.{measured_part};
 
 // The most that a meter injects or draws in a quarter, in Wh.
 pub const MOST: u32 = 1_000_000;
@@ -18,8 +19,18 @@ impl Reading {
         ensures { result ≡ within self }
     {
         match self {
-            Reading::Measured(wh) => -1_000_000 <= wh && wh <= 1_000_000,
+            Reading::Measured(wh) => wh.unsigned_abs() <= MOST,
             Reading::Estimated => true,
+        }
+    }
+
+    // What the reading adds to a sum, in Wh.
+    pub fn counted(self) -> i32
+        ensures { result ≡ measured_part self }
+    {
+        match self {
+            Reading::Measured(wh) => wh,
+            Reading::Estimated => 0,
         }
     }
 }

@@ -1,6 +1,6 @@
 // What a curve amounts to over its day.
 ghost use Rattle.std.specs.Prelude.{◌≡◌};
-ghost use Rattle.metering.specs.Summary.{measured_part, total_of, further_by, peaked, Furthest};
+ghost use Rattle.metering.specs.Summary.{total_of, further_by, peaked, Furthest};
 
 use crate::curve::Curve;
 use crate::reading::Reading;
@@ -17,16 +17,6 @@ pub fn is_further(upward: bool, a: i32, b: i32) -> bool
     ensures { result ≡ further_by upward a b }
 {
     if upward { b < a } else { a < b }
-}
-
-// An estimated reading counts for no number.
-fn measured_part(reading: Reading) -> i32
-    ensures { result ≡ measured_part reading }
-{
-    match reading {
-        Reading::Measured(wh) => wh,
-        Reading::Estimated => 0,
-    }
 }
 
 // The peak so far, after one more reading.
@@ -47,10 +37,10 @@ impl Curve {
     pub fn total(&self) -> i32
         ensures { result ≡ total_of self.now.readings }
     {
-        let readings = self.readings();
+        // A loop, since a chain's `sum` of signed numbers leaves open that it fits.
         let mut total = 0;
-        for q in 0..96 {
-            total += measured_part(readings[q]);
+        for reading in self.readings() {
+            total += reading.counted();
         }
         total
     }
@@ -59,10 +49,9 @@ impl Curve {
     pub fn furthest(&self, upward: bool) -> Option<Peak>
         ensures { Furthest upward self.now.readings 96 result }
     {
-        let readings = self.readings();
         let mut best = None;
-        for q in 0..96 {
-            best = peak_with(best, upward, q, readings[q as usize]);
+        for (q, reading) in self.readings().iter().enumerate() {
+            best = peak_with(best, upward, q as u32, *reading);
         }
         best
     }

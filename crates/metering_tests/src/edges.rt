@@ -117,7 +117,7 @@ const CASES: [Case; 15] = [
 ];
 
 fn whole_texts(rt: &HostRuntime) -> anyhow::Result<()> {
-    for case in CASES.iter() {
+    for case in &CASES {
         show(
             rt,
             case.name,
@@ -137,8 +137,8 @@ fn ends(rt: &HostRuntime) -> anyhow::Result<()> {
     let heap = rt.alloc();
     let whole = with_rows(heap, "QUARTER;A1;A2;STATE", ";0,001;0,003;M", "\n")?;
     let text = whole.as_slice();
-    if text.len() > 1 {
-        show(rt, "last-feed-missing", &text[0..text.len() - 1])?;
+    if let [cut @ .., _] = text {
+        show(rt, "last-feed-missing", cut)?;
     }
     let mut more = with_rows(heap, "QUARTER;A1;A2;STATE", ";0,001;0,003;M", "\n")?;
     more.push(b'\n')?;

@@ -5,6 +5,7 @@ mod edges;
 
 use metering::import::import;
 use metering::reading::Reading;
+use refusals::Refusal;
 use std::{env, fs};
 
 pub fn show(rt: &HostRuntime, name: &str, text: &[u8]) -> anyhow::Result<()> {
@@ -20,11 +21,12 @@ pub fn show(rt: &HostRuntime, name: &str, text: &[u8]) -> anyhow::Result<()> {
             }
         }
         Err(fault) => {
-            let refusal = fault.refusal();
-            let number = refusal.number;
-            let layer = refusal.layer;
-            let first = refusal.first;
-            let second = refusal.second;
+            let Refusal {
+                number,
+                layer,
+                first,
+                second,
+            } = fault.refusal();
             print!(rt; " refused {number} {layer} {first} {second}")?;
         }
     }
@@ -33,9 +35,7 @@ pub fn show(rt: &HostRuntime, name: &str, text: &[u8]) -> anyhow::Result<()> {
 }
 
 fn main(rt: HostRuntime) -> anyhow::Result<()> {
-    let mut args = env::args(&rt)?;
-    let _ = args.next();
-    for name in args {
+    for name in env::args(&rt)?.skip(1) {
         let text = fs::read(&rt, name.as_str())?;
         show(&rt, name.as_str(), text.as_slice())?;
     }

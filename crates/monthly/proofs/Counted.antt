@@ -1,7 +1,6 @@
 -- Sums over a row of numbers, and a declaration looked for.
-use Rattle.std.proofs.Common.{◌≡◌, ℕ, zero, suc, ◌+◌, ◌-◌, ◌<◌, ◌≤◌, Bool, true, false, ◌||◌, List, length, get_or, drop, ap, ◌∙◌, add-zero, arith}
-use Rattle.std.proofs.lemmas.List.{drop_more, drop_all}
-use Rattle.std.proofs.lemmas.Bool.Decides.{nat_tests}
+use Rattle.std.proofs.Common.{◌≡◌, ℕ, zero, suc, ◌+◌, ◌-◌, ◌≤◌, Bool, true, false, cond, not, ◌||◌, List, [], ◌∷◌, length, refl, ap, ◌∙◌, add-zero, add-one, arith}
+use Rattle.std.specs.List.{list_any, filter, range_with_len}
 use Rattle.ledger.specs.declared.records.Declaration.{Declaration}
 use Rattle.ledger.specs.Words.{counting, tally}
 use Rattle.ledger.specs.Days.{declares, is_declared}
@@ -21,29 +20,21 @@ tally_more f a i h =
     let g : a + (i - a) ≡ i = omega arith in
     ap (λ n. tally f (counting a n)) e ∙ tally_suc f a (i - a) ∙ ap (λ z. tally f (counting a (i - a)) + f z) g
 
-pub tally_none : (f : ℕ → ℕ) (a : ℕ) → tally f (counting a (a - a)) ≡ 0
-tally_none f a = let e : a - a ≡ 0 = omega arith in ap (λ n. tally f (counting a n)) e
-
-pub declared_yes : (xs : List Declaration) (i d q : ℕ) (x : Declaration) → i < length xs → declares (get_or xs i x) d q ≡ true → is_declared (drop i xs) d q ≡ true
-declared_yes xs i d q x h e = ap (λ (ys : List Declaration). is_declared ys d q) (drop_more xs i x h) ∙ ap (λ (t : Bool). t || is_declared (drop (i + 1) xs) d q) e
-
-pub declared_no : (xs : List Declaration) (i d q : ℕ) (x : Declaration) → i < length xs → declares (get_or xs i x) d q ≡ false → is_declared (drop i xs) d q ≡ is_declared (drop (i + 1) xs) d q
-declared_no xs i d q x h e = ap (λ (ys : List Declaration). is_declared ys d q) (drop_more xs i x h) ∙ ap (λ (t : Bool). t || is_declared (drop (i + 1) xs) d q) e
-
-pub declared_none : (xs : List Declaration) (i d q : ℕ) → length xs ≤ i → is_declared (drop i xs) d q ≡ false
-declared_none xs i d q h = ap (λ (ys : List Declaration). is_declared ys d q) (drop_all i xs h)
+pub any_declared : (xs : List Declaration) (d q : ℕ) → list_any (λ x. declares x d q) xs ≡ is_declared xs d q
+any_declared [] d q = refl
+any_declared (x ∷ xs) d q = ap (λ (t : Bool). declares x d q || t) (any_declared xs d q)
 
 pub tally_step : (f : ℕ → ℕ) (a i before after v : ℕ) → a ≤ i → before ≡ tally f (counting a (i - a)) → f i ≡ v → after ≡ before + v → after ≡ tally f (counting a (i + 1 - a))
 tally_step f a i before after v h e g k = let m = tally_more f a i h in omega (arith, e, g, k, m)
 
-pub declares_it : (x : Declaration) (d q : ℕ) → x.day ≡ d → x.q0 ≤ q → q < x.q1 → declares x d q ≡ true
-declares_it x d q e f g = grind (arith, nat_tests)
+-- those of a row that do not pass, counted
+pub length_left : (p : ℕ → Bool) (a n : ℕ) → length (filter (λ q. not (p q)) (range_with_len a n)) ≡ tally (λ q. cond (p q) 0 1) (counting a n)
+length_left p a zero = refl
+length_left p a (suc n) = one (p a) (ap (λ z. length (filter (λ q. not (p q)) (range_with_len z n))) (add-one a) ∙ length_left p (suc a) n)
+  where
+    rest : List ℕ
+    rest = filter (λ q. not (p q)) (range_with_len (a + 1) n)
 
-pub other_day : (x : Declaration) (d q : ℕ) → (x.day ≡ d → ⊥) → declares x d q ≡ false
-other_day x d q e = grind (arith, nat_tests)
-
-pub too_early : (x : Declaration) (d q : ℕ) → q < x.q0 → declares x d q ≡ false
-too_early x d q e = grind (arith, nat_tests)
-
-pub too_late : (x : Declaration) (d q : ℕ) → x.q1 ≤ q → declares x d q ≡ false
-too_late x d q e = grind (arith, nat_tests)
+    one : (b : Bool) {k : ℕ} → length rest ≡ k → length (cond (not b) (a ∷ rest) rest) ≡ cond b 0 1 + k
+    one true e = omega (arith, e)
+    one false e = omega (arith, e)

@@ -1,5 +1,4 @@
 pub mod Digits
-pub mod Laid
 pub mod Counted
 pub mod Summed
 pub mod Monthed

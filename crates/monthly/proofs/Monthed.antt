@@ -1,5 +1,5 @@
 -- The month from its days, its sums and its figures.
-use Rattle.std.proofs.Common.{◌≡◌, ℕ, Bool, true, false, cond, not, List, Some, None, Ok, Err, refl, ap, ◌∙◌, zero-add, arith}
+use Rattle.std.proofs.Common.{◌≡◌, ℕ, List, Some, None, Ok, Err, Option, refl, sym, ap, subst, ◌∙◌, zero-add, arith}
 use Rattle.ledger.specs.declared.fault.BookFault.TheVariants.{NoMonth}
 use Rattle.ledger.specs.declared.terms.Terms.{Terms}
 use Rattle.ledger.specs.declared.records.Booked.{Booked}
@@ -7,7 +7,10 @@ use Rattle.ledger.specs.declared.records.Outcome.{Outcome}
 use Rattle.ledger.specs.declared.records.Declaration.{Declaration}
 use Rattle.ledger.specs.declared.records.Month.{Month}
 use Rattle.monthly.specs.declared.month.Sums.{Sums}
-use Rattle.ledger.specs.Words.{Granted, ◌>>=◌, unless}
+use Rattle.std.specs.Option.{ok_or}
+use Rattle.monthly.specs.declared.days.MonthDays.{MonthDays}
+use Rattle.monthly.specs.Days.{AreDaysOf}
+use Rattle.ledger.specs.Words.{Granted, ◌>>=◌}
 use Rattle.ledger.specs.Book.{Book, outcomes_in, available, offered, days_of, month_figures, month_of}
 use Rattle.monthly.specs.Monthly.{month_from, sums_of, plus, sums_with, no_sums, sums_in, figures_from}
 
@@ -22,17 +25,16 @@ from_sums : (t : Terms) (av di : ℕ) (a : Sums) (r : Granted (List Outcome)) �
 from_sums t av di a (Err e) h = absurd (grind arith)
 from_sums t av di a (Ok xs) h = let e : a ≡ plus no_sums (sums_of xs) = grind arith in ap (λ (z : Sums). Ok (figures_from t av di z)) (e ∙ from_nothing xs)
 
-pub from_parts : (t : Terms) (os : List Booked) (xs : List Declaration) (b : Bool) (f l first last av di : ℕ) (a : Sums) (r : Month)
-    → Some first ≡ cond b (Some f) None → Some last ≡ cond b (Some l) None → Ok a ≡ sums_in first last os
-    → av ≡ available t (days_of first last) → di ≡ offered t xs (days_of first last) → r ≡ figures_from t av di a
-    → Ok r ≡ (unless (not b) NoMonth >>= (λ _. outcomes_in f l 0 os >>= (λ outcomes. Ok (month_figures t (available t (days_of f l)) (offered t xs (days_of f l)) outcomes))))
-from_parts t os xs false f l first last av di a r ef el es ea ed er = absurd (grind arith)
-from_parts t os xs true f l first last av di a r ef el es ea ed er =
-    let e : first ≡ f = grind arith in
-    let g : last ≡ l = grind arith in
-    let s : Ok a ≡ sums_in f l os = es ∙ ap (λ z. sums_in z last os) e ∙ ap (λ z. sums_in f z os) g in
-    let p : av ≡ available t (days_of f l) = ea ∙ ap (λ z. available t (days_of z last)) e ∙ ap (λ z. available t (days_of f z)) g in
-    let q : di ≡ offered t xs (days_of f l) = ed ∙ ap (λ z. offered t xs (days_of z last)) e ∙ ap (λ z. offered t xs (days_of f z)) g in
-    let k : Ok r ≡ Ok (figures_from t (available t (days_of f l)) (offered t xs (days_of f l)) a)
-    = ap (λ (z : Month). Ok z) er ∙ ap (λ z. Ok (figures_from t z di a)) p ∙ ap (λ z. Ok (figures_from t (available t (days_of f l)) z a)) q in
-    k ∙ from_sums t _ _ a (outcomes_in f l 0 os) s
+-- the days that were asked for, where they are there
+pub days_there : (y m : ℕ) (o : Option MonthDays) (d : MonthDays) → AreDaysOf y m o → ok_or o NoMonth ≡ Ok d → AreDaysOf y m (Some d)
+days_there y m None d h e = cc
+days_there y m (Some x) d h e = let f : x ≡ d = cc in subst (λ (z : MonthDays). AreDaysOf y m (Some z)) f h
+
+pub from_parts : (t : Terms) (os : List Booked) (xs : List Declaration) (y m : ℕ) (d : MonthDays) (av di : ℕ) (a : Sums) (r : Month)
+    → AreDaysOf y m (Some d) → Ok a ≡ sums_in d.first d.last os
+    → av ≡ available t (days_of d.first d.last) → di ≡ offered t xs (days_of d.first d.last) → r ≡ figures_from t av di a
+    → Ok r ≡ month_from t os xs y m
+from_parts t os xs y m d av di a r ed es ea eo er =
+    let k : Ok r ≡ Ok (figures_from t (available t (days_of d.first d.last)) (offered t xs (days_of d.first d.last)) a)
+    = ap (λ (z : Month). Ok z) er ∙ ap (λ z. Ok (figures_from t z di a)) ea ∙ ap (λ z. Ok (figures_from t (available t (days_of d.first d.last)) z a)) eo in
+    simp (ed.0, sym ed.1, sym ed.2) (k ∙ from_sums t _ _ a (outcomes_in d.first d.last 0 os) es)

@@ -1,6 +1,7 @@
 // What a month amounts to, and the line of its fourteen figures.
 #![tactic(auto)]
 
-mod decimals;
+mod cell;
+mod days;
 pub mod line;
 pub mod month;

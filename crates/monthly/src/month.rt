@@ -1,14 +1,14 @@
 // The figures of a month.
-ghost use Rattle.std.specs.Prelude.{◌≡◌, ◌+◌, ◌^◌, ◌<◌, ◌≤◌, pos, if◌then◌else◌};
+ghost use Rattle.std.specs.Prelude.{◌≡◌, ℕ, ◌^◌, ◌<◌, ◌≤◌, pos, if◌then◌else◌};
 ghost use Rattle.rulebooks.specs.Rounding.{rounded as rounded_of};
 ghost use Rattle.ledger.specs.Words.{tally};
-ghost use Rattle.ledger.specs.Days.{is_declared};
+ghost use Rattle.ledger.specs.Days.{is_declared, in_kinds};
 ghost use Rattle.ledger.specs.Settling.{positive};
 ghost use Rattle.ledger.specs.Standing.{is_modest, are_modest};
-ghost use Rattle.ledger.specs.Book.{window_of, days_of, available as available_of, offered as offered_of, percent as percent_of};
-ghost use Rattle.monthly.specs.Monthly.{sums_in, plus as plus_of, of_one, Within, WithinOk, Kept, figures_from, month_from, month_in};
+ghost use Rattle.ledger.specs.Book.{window_of, days_of, percent as percent_of};
+ghost use Rattle.monthly.specs.Monthly.{sums_in, plus as plus_of, of_one, Within, WithinOk, Kept, figures_from, month_in};
 
-use calendar::{first_day, last_day};
+use crate::days::MonthDays;
 use ledger::days::in_kinds;
 use ledger::fault::BookFault;
 use ledger::records::{Booked, Declaration, Month, Outcome};
@@ -26,10 +26,7 @@ fn quotient(num: u64, den: u64) -> u64
     ensures value { result ≡ positive (rounded_of (pos num) (pos den)) }
     ensures size { result < 2 ^ 63 }
 {
-    match round_div(num as i64, den as i64) {
-        Some(z) => { if z < 0 { 0 } else { z as u64 } }
-        None => 0,
-    }
+    round_div(num as i64, den as i64).map_or(0, |z| z.max(0) as u64)
 }
 
 // Part of whole, in hundredths of a percent; all of nothing is 100 percent.
@@ -47,12 +44,9 @@ pub(crate) fn percent(part: u64, whole: u64) -> u64
 fn is_declared(declarations: &[Declaration], day: u32, quarter: u32) -> bool
     ensures { result ≡ is_declared declarations.now day quarter }
 {
-    for declared in declarations {
-        if declared.day == day && declared.q0 <= quarter && quarter < declared.q1 {
-            return true;
-        }
-    }
-    false
+    declarations
+        .iter()
+        .any(|x| x.day == day && (x.q0..x.q1).contains(&quarter))
 }
 
 // The quarters of the window that a day has left.
@@ -60,45 +54,31 @@ fn offered_on(terms: &Terms, declarations: &[Declaration], day: u32) -> u32
     ensures count { result ≡ tally (λ q. (if is_declared declarations.now day q then 0 else 1)) (window_of terms.now) }
     ensures most { result ≤ 96 }
 {
-    let mut quarters = 0;
-    for q in terms.w0..terms.w1 {
-        if !is_declared(declarations, day, q) {
-            quarters += 1;
-        }
-    }
-    quarters
+    (terms.w0..terms.w1)
+        .filter(|&quarter| !is_declared(declarations, day, quarter))
+        .count() as u32
 }
 
-fn available(terms: &Terms, first: u32, last: u32) -> u32
-    requires { (first ≤ last) × (last ≤ first + 30) × (last ≤ 36524) }
-    ensures count { result ≡ available_of terms.now (days_of first last) }
+// The quarters of those days of a month that have the terms' kinds, each day with as many as `on_day` answers.
+fn quarters_in<F: Fn(u32) -> u32>(terms: &Terms, days: MonthDays, on_day: F) -> u32
+    requires callable { F.IsAlwaysCallable on_day }
+    requires few { (day quarters : ℕ) → F.post on_day day quarters → quarters ≤ 96 }
+    ensures count { (count : ℕ → ℕ) → ((day quarters : ℕ) → F.post on_day day quarters → quarters ≡ count day)
+        → result ≡ tally (λ day. (if in_kinds terms.now day then count day else 0)) (days_of days.first days.last) }
     ensures most { result ≤ 2976 }
 {
     let mut quarters = 0;
-    for day in first..last + 1 {
+    // At `..=` the last day's step is left to prove once more after the loop.
+    for day in days.first..days.last + 1 {
         if in_kinds(terms, day) {
-            quarters += terms.w1 - terms.w0;
-        }
-    }
-    quarters
-}
-
-fn offered(terms: &Terms, declarations: &[Declaration], first: u32, last: u32) -> u32
-    requires { (first ≤ last) × (last ≤ first + 30) × (last ≤ 36524) }
-    ensures count { result ≡ offered_of terms.now declarations.now (days_of first last) }
-    ensures most { result ≤ 2976 }
-{
-    let mut quarters = 0;
-    for day in first..last + 1 {
-        if in_kinds(terms, day) {
-            quarters += offered_on(terms, declarations, day);
+            quarters += on_day(day);
         }
     }
     quarters
 }
 
 // What the orders of a month sum to, in Wh.
-#[derive(Clone, Copy)]
+#[derive(Clone, Copy, Default)]
 pub(crate) struct Sums {
     pub(crate) eda: u64,
     pub(crate) pta: u64,
@@ -106,37 +86,34 @@ pub(crate) struct Sums {
     pub(crate) paid: u64,
 }
 
-fn added(sums: Sums, outcome: Outcome) -> Sums
-    requires sums { Within 127 sums }
-    requires outcome { Within 1 (of_one outcome) }
-    ensures { result ≡ plus_of sums (of_one outcome) }
-{
-    Sums {
-        eda: sums.eda + outcome.eda,
-        pta: sums.pta + outcome.pta,
-        seta: sums.seta + outcome.seta,
-        paid: sums.paid + outcome.paid,
+impl Sums {
+    fn with(self, outcome: Outcome) -> Sums
+        requires sums { Within 127 self }
+        requires outcome { Within 1 (of_one outcome) }
+        ensures { result ≡ plus_of self (of_one outcome) }
+    {
+        Sums {
+            eda: self.eda + outcome.eda,
+            pta: self.pta + outcome.pta,
+            seta: self.seta + outcome.seta,
+            paid: self.paid + outcome.paid,
+        }
     }
 }
 
 // Stops at the first order of these days that is not settled.
-fn sums_in(orders: &[Booked], first: u32, last: u32) -> Result<Sums, BookFault>
+fn sums_in(orders: &[Booked], days: MonthDays) -> Result<Sums, BookFault>
     requires { Kept orders.now }
-    ensures value { result ≡ sums_in first last orders.now }
+    ensures value { result ≡ sums_in days.first days.last orders.now }
     ensures size { WithinOk result }
 {
-    let mut sums = Sums {
-        eda: 0,
-        pta: 0,
-        seta: 0,
-        paid: 0,
-    };
-    for i in 0..orders.len() {
-        if first <= orders[i].order.day && orders[i].order.day <= last {
-            match orders[i].result {
-                Some(outcome) => sums = added(sums, outcome),
-                None => return Err(BookFault::Unsettled { order: i as u32 }),
-            }
+    let mut sums = Sums::default();
+    for (i, booked) in orders.iter().enumerate() {
+        if days.contains(booked.order.day) {
+            let outcome = booked
+                .result
+                .ok_or(BookFault::Unsettled { order: i as u32 })?;
+            sums = sums.with(outcome);
         }
     }
     Ok(sums)
@@ -147,8 +124,11 @@ fn figures(terms: &Terms, av: u32, di: u32, sums: Sums) -> Month
     requires sums { Within 128 sums }
     ensures { result ≡ figures_from terms.now av di sums }
 {
-    let apm = quotient(di as u64 * terms.qc as u64 * terms.af as u64, 400);
-    let upm = quotient(sums.paid * terms.uf as u64, 100_000);
+    let apm = quotient(
+        u64::from(di) * u64::from(terms.qc) * u64::from(terms.af),
+        400,
+    );
+    let upm = quotient(sums.paid * u64::from(terms.uf), 100_000);
     Month {
         av,
         di,
@@ -162,46 +142,16 @@ fn figures(terms: &Terms, av: u32, di: u32, sums: Sums) -> Month
     }
 }
 
-pub(crate) fn month_figures(
-    terms: &Terms,
-    orders: &[Booked],
-    declarations: &[Declaration],
-    year: u32,
-    month: u32,
-) -> Result<Month, BookFault>
-    requires { Kept orders.now }
-    ensures { result ≡ month_from terms.now orders.now declarations.now year month }
-{
-    let Some(first) = first_day(year, month) else {
-        return Err(BookFault::NoMonth);
-    };
-    let Some(last) = last_day(year, month) else {
-        return Err(BookFault::NoMonth);
-    };
-    let sums = sums_in(orders, first, last)?;
-    let av = available(terms, first, last);
-    let di = offered(terms, declarations, first, last);
-    Ok(figures(terms, av, di, sums))
-}
-
 fn is_modest(res: Option<Outcome>) -> bool
     ensures { result ≡ is_modest res }
 {
-    match res {
-        Some(x) => x.eda <= MOST && x.pta <= MOST && x.seta <= MOST && x.paid <= MOST,
-        None => true,
-    }
+    res.is_none_or(|x| x.eda <= MOST && x.pta <= MOST && x.seta <= MOST && x.paid <= MOST)
 }
 
 fn are_modest(orders: &[Booked]) -> bool
     ensures { result ≡ are_modest orders.now }
 {
-    for booked in orders {
-        if !is_modest(booked.result) {
-            return false;
-        }
-    }
-    true
+    orders.iter().all(|booked| is_modest(booked.result))
 }
 
 // Refused with 14 where no book has such orders.
@@ -214,11 +164,12 @@ pub fn month_in(
 ) -> Result<Month, BookFault>
     ensures { result ≡ month_in terms.now orders.now declarations.now year month }
 {
-    if orders.len() > 128 {
+    if orders.len() > 128 || !are_modest(orders) {
         return Err(BookFault::Number);
     }
-    if !are_modest(orders) {
-        return Err(BookFault::Number);
-    }
-    month_figures(terms, orders, declarations, year, month)
+    let days = MonthDays::of(year, month).ok_or(BookFault::NoMonth)?;
+    let sums = sums_in(orders, days)?;
+    let av = quarters_in(terms, days, |_| terms.w1 - terms.w0);
+    let di = quarters_in(terms, days, |day| offered_on(terms, declarations, day));
+    Ok(figures(terms, av, di, sums))
 }

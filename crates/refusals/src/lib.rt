@@ -34,6 +34,19 @@ pub struct Refusal {
     pub second: u32,
 }
 
+impl Refusal {
+    pub fn new(number: u8, layer: Layer, first: u32, second: u32) -> Refusal
+        ensures { result ≡ record { number = number; layer = layer; first = first; second = second } }
+    {
+        Refusal {
+            number,
+            layer,
+            first,
+            second,
+        }
+    }
+}
+
 // Whose matter a refusal is, by its number.
 pub fn matter_of(number: u8) -> Matter
     ensures { result ≡ matter_of number }
@@ -49,23 +62,23 @@ pub fn matter_of(number: u8) -> Matter
 
 impl fmt::Display for Layer {
     fn fmt<W: fmt::Write>(&self, f: &mut fmt::Formatter<W>) -> fmt::Result {
-        match self {
-            Layer::Book => write!(f, "book"),
-            Layer::Store => write!(f, "store"),
-            Layer::Rulebook => write!(f, "rulebook"),
-            Layer::Import => write!(f, "import"),
-        }
+        f.write_str(match self {
+            Layer::Book => "book",
+            Layer::Store => "store",
+            Layer::Rulebook => "rulebook",
+            Layer::Import => "import",
+        })
     }
 }
 
 impl fmt::Display for Matter {
     fn fmt<W: fmt::Write>(&self, f: &mut fmt::Formatter<W>) -> fmt::Result {
-        match self {
-            Matter::Office => write!(f, "a matter for our office"),
-            Matter::Installer => write!(f, "a matter for the installer"),
-            Matter::MeterOperator => write!(f, "a matter for the meter operator"),
-            Matter::GridOperator => write!(f, "a matter for the grid operator"),
-            Matter::Settler => write!(f, "a matter for the settler"),
-        }
+        f.write_str(match self {
+            Matter::Office => "a matter for our office",
+            Matter::Installer => "a matter for the installer",
+            Matter::MeterOperator => "a matter for the meter operator",
+            Matter::GridOperator => "a matter for the grid operator",
+            Matter::Settler => "a matter for the settler",
+        })
     }
 }

@@ -4,9 +4,11 @@
 mod report;
 mod source;
 
+use asking::{Asked, asked_by, ended, read_whole};
 use lifefile::script::{At, read_script};
-use source::{Asked, Beside};
+use source::{Beside, text_of};
 use std::process::ExitCode;
+use std::{env, fs, io};
 
 const HELP: &str = "usage: replay [FILE ..]
 Reads a life file, the record of all calls made on one settlement book, from FILE or from standard input
@@ -39,55 +41,55 @@ that cannot be read or a store that finds no memory is reported on standard erro
 from that line on is run.
 Exit status: 0 where the life was run to its end, 1 where it was not.";
 
-// False where the life is not run to its end.
-fn replay(rt: &HostRuntime, life: &str, text: &str) -> anyhow::Result<bool> {
-    let script = read_script(rt.alloc(), &Beside { rt, life }, text);
+// The status tells whether the life is run to its end.
+fn replay(rt: &HostRuntime, life: &str, bytes: &[u8]) -> anyhow::Result<ExitCode> {
+    let text = text_of(rt.alloc(), bytes)?;
+    let script = read_script(rt.alloc(), &Beside { rt, life }, text.as_str());
     let mut out = String::new(rt.alloc());
     let flaw = report::run(rt.alloc(), &mut out, &script)?;
     print!(rt; "{out}")?;
     match flaw {
-        None => Ok(true),
+        None => Ok(ExitCode::SUCCESS),
         Some(At { line, what }) => {
             eprintln!(rt; "replay: line {line}: {what}")?;
-            Ok(false)
+            Ok(ExitCode::FAILURE)
         }
     }
 }
 
-// Several files are told apart by a line with their names.
-fn replay_all(rt: &HostRuntime, files: &[String]) -> anyhow::Result<bool> {
+// Several files are told apart by a line with their names; the first that is not run to its end is the last.
+fn replay_all(rt: &HostRuntime, files: &[String]) -> anyhow::Result<ExitCode> {
     for file in files {
         if files.len() > 1 {
             println!(rt; "# {file}")?;
         }
-        let Some(text) = source::from_file(rt, file.as_str())? else {
-            return Ok(false);
+        let status = match fs::read(rt, file.as_str()) {
+            Ok(bytes) => replay(rt, file.as_str(), bytes.as_slice())?,
+            // Told here: an error that is passed on keeps a text only in part.
+            Err(e) => {
+                eprintln!(rt; "replay: {file} cannot be read: {e}")?;
+                ExitCode::FAILURE
+            }
         };
-        if !replay(rt, file.as_str(), text.as_str())? {
-            return Ok(false);
+        if status != ExitCode::SUCCESS {
+            return Ok(status);
         }
     }
-    Ok(true)
+    Ok(ExitCode::SUCCESS)
 }
 
-fn run(rt: &HostRuntime) -> anyhow::Result<bool> {
-    match source::request(rt)? {
+fn run(rt: &HostRuntime) -> anyhow::Result<ExitCode> {
+    let words: Vec<String> = env::args(rt)?.skip(1).collect(rt.alloc())?;
+    match asked_by(words.first().map(|word| word.as_str())) {
         Asked::Help => {
             println!(rt; "{HELP}")?;
-            Ok(true)
+            Ok(ExitCode::SUCCESS)
         }
-        Asked::Input => replay(rt, "", source::from_input(rt)?.as_str()),
-        Asked::Files(files) => replay_all(rt, files.as_slice()),
+        Asked::Input => replay(rt, "", read_whole(rt.alloc(), rt.stdin())?.as_slice()),
+        Asked::Files => replay_all(rt, words.as_slice()),
     }
 }
 
-fn main(rt: HostRuntime) -> anyhow::Result<ExitCode> {
-    match run(&rt) {
-        Ok(true) => Ok(ExitCode::SUCCESS),
-        Ok(false) => Ok(ExitCode::FAILURE),
-        Err(e) => {
-            eprintln!(rt; "replay: {e}")?;
-            Ok(ExitCode::FAILURE)
-        }
-    }
+fn main(rt: HostRuntime) -> io::Result<ExitCode> {
+    ended(&rt, "replay", run(&rt))
 }

@@ -1,5 +1,5 @@
 // A life that is run, and what it prints.
-use anyhow::anyhow;
+use anyhow::bail;
 use ledger::life::Answer;
 use ledger::records::Month;
 use ledger::terms::Terms;
@@ -13,7 +13,6 @@ use monthly::line::write_line;
 use rulebooks::SuppliedRulebook;
 use settlement::live::live;
 use std::alloc::{AllocError, Global};
-use std::str::from_utf8;
 use stores::keeper::{Keeper, keeper_fits};
 use stores::store::Store;
 
@@ -29,20 +28,13 @@ fn write_month_line(
     let mut bytes = [0u8; LONGEST_LINE];
     let length = match write_line(terms, figures, &mut bytes) {
         Ok(length) => length as usize,
-        Err(fault) => return write_refused(out, line, fault.refusal()),
+        Err(fault) => return write_refused(out, line, fault),
     };
     write!(out, "{line} ok line ")?;
     for byte in bytes.iter().take(length) {
         out.push(*byte as char)?;
     }
     Ok(())
-}
-
-fn registered(answer: &Answer) -> usize {
-    match answer {
-        Answer::Registered(_) => 1,
-        _ => 0,
-    }
 }
 
 fn write_asked(
@@ -61,13 +53,15 @@ fn write_asked(
 
 // Each step with the answer of its call. All resources are registered before the first order.
 fn write_steps(out: &mut String, script: &Script, answers: &[Answer]) -> Result<(), AllocError> {
-    let mut resources = 0usize;
+    let resources = answers
+        .iter()
+        .filter(|answer| matches!(answer, Answer::Registered(_)))
+        .count();
     for At { line, what } in script.steps.iter() {
         match what {
             Step::Unformed(fault) => write_unformed(out, *line, *fault)?,
             Step::Asked { call, note } => {
                 if let Some(answer) = answers.get(*call) {
-                    resources = resources.saturating_add(registered(answer));
                     write_asked(out, *line, *note, resources, &script.terms, answer)?;
                 }
             }
@@ -95,29 +89,36 @@ fn run_book<S: Store + Drop>(
         answers.as_mut_slice(),
     );
     if life.refused.is_some() {
-        return Err(anyhow!("the book left calls unanswered"));
+        bail!("the book left calls unanswered");
     }
     write_steps(out, script, answers.as_slice())?;
     Ok(())
 }
 
+// Its store and its book, where the machine gives the store its memory.
 fn run_store<S: Store + Drop>(
     heap: Global,
     out: &mut String,
     script: &Script,
     line: usize,
-    made: Made<S>,
-) -> anyhow::Result<()> {
-    let Made { store, fits } = made;
+    made: Result<Made<S>, AllocError>,
+) -> anyhow::Result<Option<At<Flaw>>> {
+    let Ok(Made { store, fits }) = made else {
+        return Ok(Some(At {
+            line,
+            what: Flaw::NoMemory,
+        }));
+    };
     write_made(out, line, "store", fits, &store)?;
     match script.keep {
         Some(At { line, what: span }) => {
             let kept = Keeper::over(store, span);
             write_made(out, line, "keep", keeper_fits(span), &kept)?;
-            run_book(heap, out, script, kept)
+            run_book(heap, out, script, kept)?;
         }
-        None => run_book(heap, out, script, store),
+        None => run_book(heap, out, script, store)?,
     }
+    Ok(script.flaw)
 }
 
 // The first line that could not be run, after the text of those before it.
@@ -125,19 +126,13 @@ pub fn run(heap: Global, out: &mut String, script: &Script) -> anyhow::Result<Op
     let Some(At { line, what }) = script.store else {
         return Ok(script.flaw);
     };
-    let no_memory = At {
-        line,
-        what: Flaw::NoMemory,
-    };
     match what {
-        StoreLine::Ring { width, days, words } => match ring_of(heap, width, days, words) {
-            Ok(made) => run_store(heap, out, script, line, made)?,
-            Err(_) => return Ok(Some(no_memory)),
-        },
-        StoreLine::Journal { width, bytes } => match journal_of(heap, width, bytes) {
-            Ok(made) => run_store(heap, out, script, line, made)?,
-            Err(_) => return Ok(Some(no_memory)),
-        },
+        StoreLine::Ring { width, days, words } => {
+            let made = ring_of(heap, width, days, words);
+            run_store(heap, out, script, line, made)
+        }
+        StoreLine::Journal { width, bytes } => {
+            run_store(heap, out, script, line, journal_of(heap, width, bytes))
+        }
     }
-    Ok(script.flaw)
 }

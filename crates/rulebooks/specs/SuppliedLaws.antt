@@ -24,10 +24,7 @@ supplied_lawful = joined_lawful additive_rules (joined ratio_rules lead_mean_rul
 -- a choice that is none of the three is unknown
 one_of_three : (a b c : Bool) → is_some {T = ℕ} (if_known (cond a (Some 15) None) (cond a (Some 15) None) (if_known (cond b (Some 15) None) (cond b (Some 15) None) (cond c (Some 0) None))) ≡ true
     → (P : Type 0) → (a ≡ true → P) → (b ≡ true → P) → (c ≡ true → P) → P
-one_of_three true b c h P p q r = p refl
-one_of_three false true c h P p q r = q refl
-one_of_three false false true h P p q r = r refl
-one_of_three false false false h P p q r = absurd (let n : ◌≡◌ {A = ℕ} 0 1 = cc in omega arith)
+one_of_three a b c h P p q r = grind arith
 
 pub supplied_choices : SuppliedChoices
 supplied_choices = record {
@@ -63,8 +60,8 @@ additive_downward s l c =
 
 pub mean_guarantee : MeanGuarantee
 mean_guarantee = record {
-  upward = λ s l c z e. let g = (granted supplied_rules 1 0 s l c z e).given in let f : additive 0 s l c ≡ z = cc in rw (sym f) (additive_upward s l c);
-  downward = λ s l c z e. let g = (granted supplied_rules 1 1 s l c z e).given in let f : additive 1 s l c ≡ z = cc in rw (sym f) (additive_downward s l c);
+  upward = λ s l c z e. grind (arith, (granted supplied_rules 1 0 s l c z e).given, additive_upward s l c);
+  downward = λ s l c z e. grind (arith, (granted supplied_rules 1 1 s l c z e).given, additive_downward s l c);
 }
 
 adjustment_follows : (b : Bool) (g h : ℤ) → g ≤ℤ h → cond b (int_min g (pos 0)) (int_max g (pos 0)) ≤ℤ cond b (int_min h (pos 0)) (int_max h (pos 0))
@@ -84,17 +81,9 @@ lead_mean_follows c c' h = rounded_monotone c c' (pos 8) pos_8 h
 pub follows_sums : FollowsSums
 follows_sums = record {
   additive_follows = λ d s s' l l' c c' y z p q r e f.
-      let g = (granted supplied_rules 1 d s l c y e).given in
-      let h = (granted supplied_rules 1 d s' l' c' z f).given in
-      let u : additive d s l c ≡ y = cc in
-      let v : additive d s' l' c' ≡ z = cc in
-      rw (sym u, sym v) (additive_follows d s s' l l' c c' p q r);
+      grind (arith, (granted supplied_rules 1 d s l c y e).given, (granted supplied_rules 1 d s' l' c' z f).given, additive_follows d s s' l l' c c' p q r);
   lead_mean_follows = λ d d' s s' l l' c c' y z p e f.
-      let g = (granted supplied_rules 3 d s l c y e).given in
-      let h = (granted supplied_rules 3 d' s' l' c' z f).given in
-      let u : lead_mean c ≡ y = cc in
-      let v : lead_mean c' ≡ z = cc in
-      rw (sym u, sym v) (lead_mean_follows c c' p);
+      grind (arith, (granted supplied_rules 3 d s l c y e).given, (granted supplied_rules 3 d' s' l' c' z f).given, lead_mean_follows c c' p);
 }
 
 -- a figure, once the numbers before its rounding are computed

@@ -3,6 +3,7 @@ ghost use Rattle.std.specs.Prelude.{◌≡◌};
 ghost use Rattle.rulebooks.specs.Banks.{joined, BankLaws};
 ghost use Rattle.rulebooks.specs.JoinedLaws.{joined_lawful};
 
+use crate::question::Question;
 use crate::rule::{RuleFault, Rulebook};
 
 // The first rulebook where it knows the choice, else the second.
@@ -28,23 +29,15 @@ impl<X: Rulebook, Y: Rulebook> Rulebook for Bank<X, Y> {
     ghost lawful = { λ b. joined_lawful (X.Rulebook.rules b.first) (Y.Rulebook.rules b.second) (X.Rulebook.lawful b.first) (Y.Rulebook.lawful b.second) };
 
     fn days(&self, choice: u8) -> Option<u8> {
-        match self.first.days(choice) {
-            Some(n) => Some(n),
-            None => self.second.days(choice),
-        }
+        self.first.days(choice).or_else(|| self.second.days(choice))
     }
 
-    fn baseline(
-        &self,
-        choice: u8,
-        direction: u8,
-        s: i64,
-        l: i64,
-        c: i64,
-    ) -> Result<i64, RuleFault> {
-        match self.first.days(choice) {
-            Some(_) => self.first.baseline(choice, direction, s, l, c),
-            None => self.second.baseline(choice, direction, s, l, c),
+    #[tactic(auto, unfolding(crate::specs::Rules::answered))]
+    fn baseline(&self, asked: Question) -> Result<i64, RuleFault> {
+        if self.first.days(asked.choice).is_some() {
+            self.first.baseline(asked)
+        } else {
+            self.second.baseline(asked)
         }
     }
 }

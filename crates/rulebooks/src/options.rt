@@ -1,11 +1,17 @@
 // The three rules, each a rulebook of one choice, and the unadjusted mean.
-ghost use Rattle.std.specs.Prelude.{◌≡◌, ◌≤◌, unsigned_abs};
-ghost use Rattle.rulebooks.specs.Rules.{s_limit, l_limit, c_limit, InRange};
-ghost use Rattle.rulebooks.specs.Options.{mean_answered, adjustment, additive, bounded, ratio, additive_rules, ratio_rules, lead_mean_rules};
+ghost use Rattle.std.specs.Prelude.{◌≡◌, Some};
+ghost use Rattle.rulebooks.specs.Options.{mean_answered, adjustment, additive, bounded, ratio, lead_mean};
 ghost use Rattle.rulebooks.specs.OptionLaws.{additive_lawful, ratio_lawful, lead_mean_lawful};
+ghost use Rattle.rulebooks.specs.Rounding.{Roundable, rounded};
+ghost use Rattle.rulebooks.specs.Rules.{InRange};
 
+use crate::formula::Formula;
+use crate::question::{Question, S_LIMIT};
 use crate::rounding::nearest;
-use crate::rule::{RuleFault, Rulebook, S_LIMIT, admit};
+use crate::rule::RuleFault;
+
+// The history days of choices 1 and 2.
+const HISTORY_DAYS: u8 = 15;
 
 // The greatest size of a baseline.
 const BASELINE_LIMIT: u64 = 10_000_000;
@@ -24,45 +30,33 @@ pub fn unadjusted_mean(s: i64) -> Result<i64, RuleFault>
 #[derive(Clone, Copy)]
 pub struct AdditiveAdjustment;
 
-fn adjusted_by(direction: u8, l: i64, c: i64) -> i64
-    requires l_size { unsigned_abs l ≤ l_limit }
-    requires c_size { unsigned_abs c ≤ c_limit }
-    ensures { result ≡ adjustment direction l c }
+fn adjusted_by(asked: Question) -> i64
+    requires { InRange asked.direction asked.s asked.l asked.c }
+    ensures { result ≡ adjustment asked.direction asked.l asked.c }
 {
-    let gap = 15 * c - l;
-    if direction == 0 {
+    let gap = 15 * asked.c - asked.l;
+    if asked.direction == 0 {
         gap.min(0)
     } else {
         gap.max(0)
     }
 }
 
-fn additive_baseline(direction: u8, s: i64, l: i64, c: i64) -> i64
-    requires { InRange direction s l c }
-    ensures { result ≡ additive direction s l c }
-{
-    nearest(8 * s + adjusted_by(direction, l, c), 120)
-}
+impl Formula for AdditiveAdjustment {
+    const CHOICE: u8 = 1;
 
-impl Rulebook for AdditiveAdjustment {
-    ghost rules = { λ _. additive_rules };
+    const DAYS: u8 = HISTORY_DAYS;
 
-    ghost lawful = { λ b. additive_lawful };
+    ghost CHOICE = { 1 };
 
-    fn days(&self, choice: u8) -> Option<u8> {
-        if choice == 1 { Some(15) } else { None }
-    }
+    ghost DAYS = { 15 };
 
-    fn baseline(
-        &self,
-        choice: u8,
-        direction: u8,
-        s: i64,
-        l: i64,
-        c: i64,
-    ) -> Result<i64, RuleFault> {
-        admit(self.days(choice), direction, s, l, c)?;
-        Ok(additive_baseline(direction, s, l, c))
+    ghost value = { λ direction s l c. Some (additive direction s l c) };
+
+    ghost lawful = { additive_lawful };
+
+    fn value(asked: Question) -> Option<i64> {
+        Some(nearest(8 * asked.s + adjusted_by(asked), 120))
     }
 }
 
@@ -70,51 +64,36 @@ impl Rulebook for AdditiveAdjustment {
 #[derive(Clone, Copy)]
 pub struct RatioAdjustment;
 
-fn within_limit(z: i64) -> Option<i64>
-    ensures { result ≡ bounded z }
+fn within_limit(num: i64, den: i64) -> Option<i64>
+    requires { Roundable num den }
+    ensures { result ≡ bounded (rounded num den) }
 {
-    if z.unsigned_abs() > BASELINE_LIMIT {
-        None
-    } else {
-        Some(z)
-    }
+    let z = nearest(num, den);
+    (z.unsigned_abs() <= BASELINE_LIMIT).then_some(z)
 }
 
-fn ratio_baseline(s: i64, l: i64, c: i64) -> Option<i64>
-    requires s_size { unsigned_abs s ≤ s_limit }
-    requires l_size { unsigned_abs l ≤ l_limit }
-    requires c_size { unsigned_abs c ≤ c_limit }
-    ensures { result ≡ ratio s l c }
-{
-    let num = s * c;
-    if l > 0 {
-        within_limit(nearest(num, l))
-    } else if l < 0 {
-        within_limit(nearest(-num, -l))
-    } else {
-        None
-    }
-}
+impl Formula for RatioAdjustment {
+    const CHOICE: u8 = 2;
 
-impl Rulebook for RatioAdjustment {
-    ghost rules = { λ _. ratio_rules };
+    const DAYS: u8 = HISTORY_DAYS;
 
-    ghost lawful = { λ b. ratio_lawful };
+    ghost CHOICE = { 2 };
 
-    fn days(&self, choice: u8) -> Option<u8> {
-        if choice == 2 { Some(15) } else { None }
-    }
+    ghost DAYS = { 15 };
 
-    fn baseline(
-        &self,
-        choice: u8,
-        direction: u8,
-        s: i64,
-        l: i64,
-        c: i64,
-    ) -> Result<i64, RuleFault> {
-        admit(self.days(choice), direction, s, l, c)?;
-        ratio_baseline(s, l, c).ok_or(RuleFault::NoBaseline)
+    ghost value = { λ direction s l c. ratio s l c };
+
+    ghost lawful = { ratio_lawful };
+
+    fn value(asked: Question) -> Option<i64> {
+        let num = asked.s * asked.c;
+        if asked.l > 0 {
+            within_limit(num, asked.l)
+        } else if asked.l < 0 {
+            within_limit(-num, -asked.l)
+        } else {
+            None
+        }
     }
 }
 
@@ -122,24 +101,20 @@ impl Rulebook for RatioAdjustment {
 #[derive(Clone, Copy)]
 pub struct LeadMean;
 
-impl Rulebook for LeadMean {
-    ghost rules = { λ _. lead_mean_rules };
+impl Formula for LeadMean {
+    const CHOICE: u8 = 3;
 
-    ghost lawful = { λ b. lead_mean_lawful };
+    const DAYS: u8 = 0;
 
-    fn days(&self, choice: u8) -> Option<u8> {
-        if choice == 3 { Some(0) } else { None }
-    }
+    ghost CHOICE = { 3 };
 
-    fn baseline(
-        &self,
-        choice: u8,
-        direction: u8,
-        s: i64,
-        l: i64,
-        c: i64,
-    ) -> Result<i64, RuleFault> {
-        admit(self.days(choice), direction, s, l, c)?;
-        Ok(nearest(c, 8))
+    ghost DAYS = { 0 };
+
+    ghost value = { λ direction s l c. Some (lead_mean c) };
+
+    ghost lawful = { lead_mean_lawful };
+
+    fn value(asked: Question) -> Option<i64> {
+        Some(nearest(asked.c, 8))
     }
 }

@@ -1,8 +1,9 @@
 // What a rulebook is asked, and how it refuses.
 ghost use Rattle.std.specs.Prelude.{◌≡◌};
 ghost use Rattle.rulebooks.specs.Faults.{refusal_of};
-ghost use Rattle.rulebooks.specs.Rules.{Rules, Lawful, out_of_range, answered, Admits};
+ghost use Rattle.rulebooks.specs.Rules.{Rules, Lawful, answered, Admits};
 
+use crate::question::Question;
 use refusals::{Layer, Refusal};
 
 // A number out of range, a choice that the rulebook does not know, a rule that gives no baseline.
@@ -22,12 +23,7 @@ impl RuleFault {
             RuleFault::UnknownChoice => 5,
             RuleFault::NoBaseline => 24,
         };
-        Refusal {
-            number,
-            layer: Layer::Rulebook,
-            first: 0,
-            second: 0,
-        }
+        Refusal::new(number, Layer::Rulebook, 0, 0)
     }
 }
 
@@ -39,34 +35,18 @@ pub trait Rulebook {
     fn days(&self, choice: u8) -> Option<u8>
         ensures { result ≡ (rules self.now).days choice };
 
-    // The adjusted baseline of a choice, a direction (0 upward, 1 downward) and the three sums.
-    fn baseline(&self, choice: u8, direction: u8, s: i64, l: i64, c: i64) -> Result<i64, RuleFault>
-        ensures { result ≡ answered (rules self.now) choice direction s l c };
+    // The adjusted baseline.
+    fn baseline(&self, asked: Question) -> Result<i64, RuleFault>
+        ensures { result ≡ answered (rules self.now) asked.choice asked.direction asked.s asked.l asked.c };
 
     ghost lawful: { (b : Self) → Lawful (rules b) };
 }
 
-// The greatest sizes of the three sums.
-pub(crate) const S_LIMIT: u64 = 15_000_000;
-
-const L_LIMIT: u64 = 120_000_000;
-
-const C_LIMIT: u64 = 8_000_000;
-
-fn is_out_of_range(direction: u8, s: i64, l: i64, c: i64) -> bool
-    ensures { result ≡ out_of_range direction s l c }
-{
-    direction > 1
-        || s.unsigned_abs() > S_LIMIT
-        || l.unsigned_abs() > L_LIMIT
-        || c.unsigned_abs() > C_LIMIT
-}
-
 // What every rulebook tests before its rule: the numbers, then that its days are given, so that the choice is known.
-pub fn admit(days: Option<u8>, direction: u8, s: i64, l: i64, c: i64) -> Result<(), RuleFault>
-    ensures { Admits direction s l c days result }
+pub fn admit(days: Option<u8>, asked: Question) -> Result<(), RuleFault>
+    ensures { Admits asked.direction asked.s asked.l asked.c days result }
 {
-    if is_out_of_range(direction, s, l, c) {
+    if asked.is_out_of_range() {
         return Err(RuleFault::OutOfRange);
     }
     if days.is_none() {

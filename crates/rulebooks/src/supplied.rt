@@ -6,6 +6,7 @@ ghost use Rattle.rulebooks.specs.SuppliedLaws.{supplied_lawful};
 
 use crate::bank::Bank;
 use crate::options::{AdditiveAdjustment, LeadMean, RatioAdjustment};
+use crate::question::Question;
 use crate::rule::{RuleFault, Rulebook};
 
 #[derive(Drop)]
@@ -14,6 +15,7 @@ pub struct SuppliedRulebook {
 }
 
 impl SuppliedRulebook {
+    #[tactic(auto, using(crate::specs::SuppliedLaws::supplied_choices, crate::specs::SuppliedLaws::mean_guarantee, crate::specs::SuppliedLaws::follows_sums, crate::specs::SuppliedLaws::figures))]
     pub fn new() -> SuppliedRulebook
         ensures choices { SuppliedChoices }
         ensures guarantee { MeanGuarantee }
@@ -35,14 +37,7 @@ impl Rulebook for SuppliedRulebook {
         self.bank.days(choice)
     }
 
-    fn baseline(
-        &self,
-        choice: u8,
-        direction: u8,
-        s: i64,
-        l: i64,
-        c: i64,
-    ) -> Result<i64, RuleFault> {
-        self.bank.baseline(choice, direction, s, l, c)
+    fn baseline(&self, asked: Question) -> Result<i64, RuleFault> {
+        self.bank.baseline(asked)
     }
 }

@@ -7,7 +7,7 @@ ghost use Rattle.rulebooks_tests.specs.Excess.{excess};
 ghost use Rattle.rulebooks.specs.Rules.{answered};
 ghost use Rattle.std.proofs.Common.{rules};
 
-use rulebooks::{RuleFault, Rulebook, admit};
+use rulebooks::{Question, RuleFault, Rulebook, admit};
 
 #[cfg(test)]
 mod tests;
@@ -22,19 +22,13 @@ impl Rulebook for Fixed {
     ghost lawful = { Prim.search rules };
 
     fn days(&self, choice: u8) -> Option<u8> {
-        if choice == 255 { Some(7) } else { None }
+        (choice == 255).then_some(7)
     }
 
-    fn baseline(
-        &self,
-        choice: u8,
-        direction: u8,
-        s: i64,
-        l: i64,
-        c: i64,
-    ) -> Result<i64, RuleFault> {
-        admit(self.days(choice), direction, s, l, c)?;
-        if direction == 0 {
+    #[tactic(auto, unfolding(rulebooks::specs::Rules::answered))]
+    fn baseline(&self, asked: Question) -> Result<i64, RuleFault> {
+        admit(self.days(asked.choice), asked)?;
+        if asked.direction == 0 {
             Ok(10_000_000)
         } else {
             Err(RuleFault::NoBaseline)
@@ -45,15 +39,11 @@ impl Rulebook for Fixed {
 // A reading above the baseline of any rulebook: proved of the trait alone.
 pub fn above_baseline<R: Rulebook>(
     rules: &R,
-    choice: u8,
-    direction: u8,
-    s: i64,
-    l: i64,
-    c: i64,
+    asked: Question,
     reading: i32,
 ) -> Result<i64, RuleFault>
-    ensures { result ≡ excess reading (answered (R.Rulebook.rules rules.now) choice direction s l c) }
+    ensures { result ≡ excess reading (answered (R.Rulebook.rules rules.now) asked.choice asked.direction asked.s asked.l asked.c) }
 {
-    let baseline = rules.baseline(choice, direction, s, l, c)?;
+    let baseline = rules.baseline(asked)?;
     Ok(i64::from(reading) - baseline)
 }

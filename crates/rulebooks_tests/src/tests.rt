@@ -7,13 +7,24 @@ const UP: u8 = 0;
 
 const DOWN: u8 = 1;
 
+fn asked(choice: u8, direction: u8, s: i64, l: i64, c: i64) -> Question {
+    Question {
+        choice,
+        direction,
+        s,
+        l,
+        c,
+    }
+}
+
 // A question to the supplied rulebook, and its answer.
 type Case = (u8, u8, i64, i64, i64, Result<i64, RuleFault>);
 
 fn each(rt: &impl Abort, cases: &[Case]) {
     let rules = SuppliedRulebook::new();
     for (i, &(choice, direction, s, l, c, answer)) in cases.iter().enumerate() {
-        assert_eq!(rt; rules.baseline(choice, direction, s, l, c), answer, "{}", i);
+        let asked = asked(choice, direction, s, l, c);
+        assert_eq!(rt; rules.baseline(asked), answer, "{}", i);
     }
 }
 
@@ -69,12 +80,7 @@ fn refusals_in_turn(rt: HostRuntime) {
             (2, UP, 0, 0, 0, Err(RuleFault::NoBaseline)),
         ],
     );
-    let none = Refusal {
-        number: 24,
-        layer: Layer::Rulebook,
-        first: 0,
-        second: 0,
-    };
+    let none = Refusal::new(24, Layer::Rulebook, 0, 0);
     assert_eq!(rt; RuleFault::NoBaseline.refusal(), none);
 }
 
@@ -188,16 +194,19 @@ fn banks(rt: HostRuntime) {
     ] {
         assert_eq!(rt; wide.days(choice), days, "{}", choice);
     }
-    assert_eq!(rt; wide.baseline(255, UP, 0, 0, 0), Ok(10_000_000));
+    assert_eq!(rt; wide.baseline(asked(255, UP, 0, 0, 0)), Ok(10_000_000));
     assert_eq!(rt;
-        wide.baseline(255, DOWN, 0, 0, 0),
+        wide.baseline(asked(255, DOWN, 0, 0, 0)),
         Err(RuleFault::NoBaseline)
     );
-    assert_eq!(rt; wide.baseline(3, UP, 0, 0, 4), Ok(1));
-    assert_eq!(rt; above_baseline(&wide, 3, UP, 0, 0, 4, -400), Ok(-401));
+    assert_eq!(rt; wide.baseline(asked(3, UP, 0, 0, 4)), Ok(1));
+    assert_eq!(rt;
+        above_baseline(&wide, asked(3, UP, 0, 0, 4), -400),
+        Ok(-401)
+    );
     let single = Bank::new(LeadMean, AdditiveAdjustment);
     assert_eq!(rt;
-        single.baseline(2, UP, 3, 2, 1),
+        single.baseline(asked(2, UP, 3, 2, 1)),
         Err(RuleFault::UnknownChoice)
     );
 }

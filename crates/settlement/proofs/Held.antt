@@ -1,39 +1,34 @@
--- What a table holds: after one more, after an outcome is recorded, and at a number.
-use Rattle.std.proofs.Common.{◌≡◌, ℕ, zero, suc, ◌+◌, ◌<◌, ◌≤◌, ltb, List, [], ◌∷◌, ◌++◌, length, get_or, take, set, Some, Ok, Err, sym, refl, ap, ◌∙◌, arith}
-use Rattle.std.proofs.lemmas.List.{take_more_set, length-take-le}
-use Rattle.std.proofs.lemmas.Bool.{cond-true, lt-ltb}
+-- The order of a number, and the orders after a result is written.
+use Rattle.std.proofs.Common.{◌≡◌, ℕ, zero, suc, ◌<◌, ◌≤◌, List, [], ◌∷◌, length, get_or, set, Some, Ok, Err, refl, sym, ap, arith}
 use Rattle.ledger.specs.declared.fault.BookFault.TheVariants.{NoOrder}
 use Rattle.ledger.specs.declared.records.Booked.{Booked}
 use Rattle.ledger.specs.declared.records.Outcome.{Outcome}
-use Rattle.ledger.specs.Words.{Granted}
-use Rattle.ledger.specs.Book.{numbered, recorded}
-use Rattle.settlement.specs.Tables.{pushed}
+use Rattle.ledger.specs.Book.{numbered, recorded, unsettled}
+use Rattle.settlement.specs.Tables.{unsettled_in}
 
-pub held_more : {A : Type 0} (xs : List A) (n m : ℕ) (x : A) → n < m → length xs ≡ m → take (n + 1) (set xs n x) ≡ pushed m (take n xs) x
-held_more xs n m x h e =
-    let l : length (take n xs) ≡ n = length-take-le n xs (omega arith) in
-    take_more_set xs n x (omega arith) ∙ sym (cond-true (ltb (length (take n xs)) m) (take n xs ++ (x ∷ [])) (take n xs) (lt-ltb (length (take n xs)) m (omega arith)))
+numbered_there : (bs : List Booked) (k : ℕ) (a : Booked) → k < length bs → a ≡ get_or bs k a → numbered bs k ≡ Ok a
+numbered_there [] k a h e = let z : ◌≡◌ {A = ℕ} 0 1 = omega arith in cc
+numbered_there (b ∷ bs) zero a h e = cc
+numbered_there (b ∷ bs) (suc k) a h e = numbered_there bs k a (omega arith) e
 
-pub numbered_there : (bs : List Booked) (n i : ℕ) (d : Booked) → i < n → i < length bs → ◌≡◌ {A = Granted Booked} (Ok (get_or bs i d)) (numbered (take n bs) i)
-numbered_there [] n i d h l = let z : ◌≡◌ {A = ℕ} 0 1 = omega arith in cc
-numbered_there (b ∷ bs) zero i d h l = let z : ◌≡◌ {A = ℕ} 0 1 = omega arith in cc
-numbered_there (b ∷ bs) (suc n) zero d h l = refl
-numbered_there (b ∷ bs) (suc n) (suc i) d h l = numbered_there bs n i d (omega arith) (omega arith)
+numbered_past : (bs : List Booked) (k : ℕ) → length bs ≤ k → numbered bs k ≡ Err NoOrder
+numbered_past [] k h = refl
+numbered_past (b ∷ bs) zero h = let z : ◌≡◌ {A = ℕ} 0 1 = omega arith in cc
+numbered_past (b ∷ bs) (suc k) h = numbered_past bs k (omega arith)
 
-pub numbered_past : (bs : List Booked) (n i : ℕ) → n ≤ i → ◌≡◌ {A = Granted Booked} (Err NoOrder) (numbered (take n bs) i)
-numbered_past bs zero i h = refl
-numbered_past [] (suc n) i h = refl
-numbered_past (b ∷ bs) (suc n) zero h = let z : ◌≡◌ {A = ℕ} 0 1 = omega arith in cc
-numbered_past (b ∷ bs) (suc n) (suc i) h = numbered_past bs n i (omega arith)
+-- the same orders have the same order of a number, still to be settled
+pub unsettled_there : (bs cs : List Booked) (k : ℕ) (a : Booked) → cs ≡ bs → k < length cs → a ≡ get_or cs k a → unsettled a a.result ≡ unsettled_in bs k
+unsettled_there bs cs k a same h e = rw (sym same) (rw (numbered_there cs k a h e))
 
-pub recorded_there : (bs : List Booked) (n k : ℕ) (x : Outcome) (d : Booked) → k < n → k < length bs → take n (set bs k (record { order = (get_or bs k d).order; result = Some x })) ≡ recorded k x (take n bs)
-recorded_there [] n k x d h l = let z : ◌≡◌ {A = ℕ} 0 1 = omega arith in cc
-recorded_there (b ∷ bs) zero k x d h l = let z : ◌≡◌ {A = ℕ} 0 1 = omega arith in cc
-recorded_there (b ∷ bs) (suc n) zero x d h l = refl
-recorded_there (b ∷ bs) (suc n) (suc k) x d h l = ap (λ t. b ∷ t) (recorded_there bs n k x d (omega arith) (omega arith))
+pub unsettled_past : (bs cs : List Booked) (k : ℕ) → cs ≡ bs → length cs ≤ k → Err NoOrder ≡ unsettled_in bs k
+unsettled_past bs cs k same h = rw (sym same) (rw (numbered_past cs k h))
 
-pub recorded_past : (bs : List Booked) (n k : ℕ) (x : Outcome) → n ≤ k → take n bs ≡ recorded k x (take n bs)
-recorded_past bs zero k x h = refl
-recorded_past [] (suc n) k x h = refl
-recorded_past (b ∷ bs) (suc n) zero x h = let z : ◌≡◌ {A = ℕ} 0 1 = omega arith in cc
-recorded_past (b ∷ bs) (suc n) (suc k) x h = ap (λ t. b ∷ t) (recorded_past bs n k x (omega arith))
+pub recorded_there : (bs : List Booked) (k : ℕ) (x : Outcome) (a : Booked) → k < length bs → a ≡ get_or bs k a → set bs k (record { order = a.order; result = Some x }) ≡ recorded k x bs
+recorded_there [] k x a h e = let z : ◌≡◌ {A = ℕ} 0 1 = omega arith in cc
+recorded_there (b ∷ bs) zero x a h e = ap (λ (y : Booked). record { order = y.order; result = Some x } ∷ bs) e
+recorded_there (b ∷ bs) (suc k) x a h e = ap (λ t. b ∷ t) (recorded_there bs k x a (omega arith) e)
+
+pub recorded_past : (bs : List Booked) (k : ℕ) (x : Outcome) → length bs ≤ k → bs ≡ recorded k x bs
+recorded_past [] k x h = refl
+recorded_past (b ∷ bs) zero x h = let z : ◌≡◌ {A = ℕ} 0 1 = omega arith in cc
+recorded_past (b ∷ bs) (suc k) x h = ap (λ t. b ∷ t) (recorded_past bs k x (omega arith))

@@ -1,5 +1,6 @@
 -- The calls of a life one by one: each answer at its place, and the book so far.
 use Rattle.std.proofs.Common.{◌≡◌, ℕ, suc, ◌+◌, ◌<◌, ◌≤◌, List, [], ◌∷◌, ◌++◌, length, get_or, take, drop, set, sym, refl, ap, ◌∙◌, arith}
+use Rattle.std.proofs.Math.Seq.{set-append_seam}
 use Rattle.std.proofs.lemmas.List.{take_more, take_all, drop_more, append_assoc, length-take-le, take-append-le}
 use Rattle.ledger.specs.declared.life.Call.{Call}
 use Rattle.ledger.specs.declared.life.Answer.{Answer}
@@ -18,10 +19,6 @@ run_length : (b : Book) (xs : List Call) → length (run b xs) ≡ length xs
 run_length b [] = refl
 run_length b (x ∷ xs) = ap suc (run_length (step b x).book xs)
 
-set_next : {A : Type 0} (us : List A) (v : A) (vs : List A) (a : A) → set (us ++ (v ∷ vs)) (length us) a ≡ us ++ (a ∷ vs)
-set_next [] v vs a = refl
-set_next (u ∷ us) v vs a = ap (λ l. u ∷ l) (set_next us v vs a)
-
 -- one more call
 pub turn : (b u w : Book) (xs : List Call) (es vs : List Answer) (i : ℕ) (x : Call) (a : Answer)
     → i < length xs → length xs ≤ length es → x ≡ get_or xs i x
@@ -32,7 +29,7 @@ turn b u w xs es vs i x a h k e p r q s =
     let n : length (run b (take i xs)) ≡ i = run_length b (take i xs) ∙ length-take-le i xs (omega arith) in
     let d : drop i es ≡ get_or es i a ∷ drop (i + 1) es = drop_more es i a (omega arith) in
     let l : set (run b (take i xs) ++ (get_or es i a ∷ drop (i + 1) es)) i a ≡ run b (take i xs) ++ (a ∷ drop (i + 1) es)
-    = ap (λ (j : ℕ). set (run b (take i xs) ++ (get_or es i a ∷ drop (i + 1) es)) j a) (sym n) ∙ set_next (run b (take i xs)) (get_or es i a) (drop (i + 1) es) a in
+    = ap (λ (j : ℕ). set (run b (take i xs) ++ (get_or es i a ∷ drop (i + 1) es)) j a) (sym n) ∙ set-append_seam (run b (take i xs)) (get_or es i a) (drop (i + 1) es) a in
     let z : a ≡ (step (final b (take i xs)) x).answer = q ∙ ap (λ (y : Book). (step y x).answer) r in (
       ap (λ (us : List Answer). set us i a) (p ∙ ap (λ (us : List Answer). run b (take i xs) ++ us) d)
           ∙ (l
@@ -41,15 +38,6 @@ turn b u w xs es vs i x a h k e p r q s =
           ∙ (ap (λ (us : List Answer). us ++ drop (i + 1) es) (sym (run_snoc b (take i xs) x))
           ∙ ap (λ (ys : List Call). run b ys ++ drop (i + 1) es) (sym m))))),
       s ∙ (ap (λ (y : Book). (step y x).book) r ∙ (sym (final_snoc b (take i xs) x) ∙ ap (final b) (sym m))),
-    )
-
--- all calls
-pub all_turns : (b u : Book) (xs : List Call) (es vs : List Answer) (i : ℕ) → i ≡ length xs → vs ≡ run b (take i xs) ++ drop i es → u ≡ final b (take i xs)
-    → (vs ≡ run b xs ++ drop (length xs) es) × (u ≡ final b xs)
-all_turns b u xs es vs i e p r =
-    let m : take i xs ≡ xs = take_all i xs (omega arith) in (
-      p ∙ (ap (λ (ys : List Call). run b ys ++ drop i es) m ∙ ap (λ (j : ℕ). run b xs ++ drop j es) e),
-      r ∙ ap (final b) m,
     )
 
 -- the answers of the calls stand in front

@@ -12,16 +12,16 @@ use Rattle.ledger.specs.Settling.{evidence}
 use Rattle.ledger.specs.Book.{Book, orders_in, with_store, may_register, registered, may_enter, may_drop, may_book, booked, may_declare, declared, Settlement, settled}
 use Rattle.ledger.specs.LineText.{line_text, length_in, written_to}
 use Rattle.ledger.specs.Run.{order_from}
-use Rattle.settlement.specs.Tables.{orders_held, resources_held, declarations_held}
+use Rattle.settlement.specs.Tables.{orders_held}
 
 abbrev pub meaning : {S R : Type 0} → (S → StoreModel) → (R → Rules) → Code S R → Book
 meaning model rules b = record {
   terms = b.terms;
   store = model b.store;
   rules = rules b.rules;
-  resources = resources_held b.resources;
+  resources = b.resources.items;
   orders = orders_held b.orders;
-  declarations = declarations_held b.declarations;
+  declarations = b.declarations.items;
 }
 
 -- a granted call answers this

@@ -5,57 +5,21 @@ ghost use Rattle.ledger.specs.Run.{step, run, final};
 ghost use Rattle.ledger.specs.Evident.{History, PayBounded, MonthApart};
 ghost use Rattle.ledger.specs.Lives.{TwoLives, Bounds, MeanGuaranteed, Second};
 ghost use Rattle.settlement.specs.Meant.{meaning};
-ghost use Rattle.settlement.specs.Living.{done, registered_as, booked_as, month_as, room_for, answers_after, book_after};
+ghost use Rattle.settlement.specs.Living.{room_for, answers_after, book_after};
 
 use crate::book::Book;
 use ledger::fault::BookFault;
 use ledger::life::{Answer, Call};
-use ledger::records::Month;
 use ledger::terms::Terms;
 use rulebooks::Rulebook;
 use stores::store::Store;
 
 // A book that has lived; where there was no room for the answers it is fresh, and says so.
+// No `Result`: the book, with its store, is handed back in either case.
 #[derive(Drop)]
 pub struct Life<S: Drop, R: Drop> {
     pub book: Book<S, R>,
     pub refused: Option<BookFault>,
-}
-
-fn answered(r: Result<(), BookFault>, granted: Answer) -> Answer
-    ensures { result ≡ done granted r }
-{
-    match r {
-        Ok(()) => granted,
-        Err(fault) => Answer::Refused(fault),
-    }
-}
-
-fn registered(r: Result<u32, BookFault>) -> Answer
-    ensures { result ≡ registered_as r }
-{
-    match r {
-        Ok(number) => Answer::Registered(number),
-        Err(fault) => Answer::Refused(fault),
-    }
-}
-
-fn booked(r: Result<u32, BookFault>) -> Answer
-    ensures { result ≡ booked_as r }
-{
-    match r {
-        Ok(number) => Answer::Booked(number),
-        Err(fault) => Answer::Refused(fault),
-    }
-}
-
-fn figured(r: Result<Month, BookFault>) -> Answer
-    ensures { result ≡ month_as r }
-{
-    match r {
-        Ok(month) => Answer::Month(month),
-        Err(fault) => Answer::Refused(fault),
-    }
 }
 
 impl<S: Store + Drop, R: Rulebook + Drop> Book<S, R> {
@@ -64,6 +28,7 @@ impl<S: Store + Drop, R: Rulebook + Drop> Book<S, R> {
         ensures after { meaning S.Store.model R.Rulebook.rules self.new ≡ (step (meaning S.Store.model R.Rulebook.rules self.old) (Call.Settle order)).book }
     {
         let mut sheet = [0i32; 608];
+        // A `match`, since of `map_or_else` with the sheet captured the check left the answer open.
         match self.settle(order, &mut sheet) {
             Ok(outcome) => Answer::Settled { outcome, sheet },
             Err(fault) => Answer::Refused(fault),
@@ -76,30 +41,35 @@ impl<S: Store + Drop, R: Rulebook + Drop> Book<S, R> {
         ensures after { meaning S.Store.model R.Rulebook.rules self.new ≡ (step (meaning S.Store.model R.Rulebook.rules self.old) call.now).book }
     {
         match call {
-            Call::Register { pod, choice, power } => registered(self.register(
-                pod.as_slice(),
-                *choice,
-                *power,
-            )),
+            Call::Register { pod, choice, power } => self
+                .register(pod, *choice, *power)
+                .map_or_else(Answer::Refused, Answer::Registered),
             Call::Enter {
                 resource,
                 day,
                 curve,
-            } => answered(self.enter(*resource, *day, curve), Answer::Entered),
-            Call::Drop { day } => answered(self.drop_before(*day), Answer::Dropped),
+            } => self
+                .enter(*resource, *day, curve)
+                .map_or_else(Answer::Refused, |_| Answer::Entered),
+            Call::Drop { day } => self
+                .drop_before(*day)
+                .map_or_else(Answer::Refused, |_| Answer::Dropped),
             Call::Book {
                 day,
                 q0,
                 q1,
                 direction,
                 qr,
-            } => booked(self.book(*day, *q0, *q1, *direction, *qr)),
-            Call::Declare { day, q0, q1 } => answered(
-                self.declare(*day, *q0, *q1),
-                Answer::Declared,
-            ),
+            } => self
+                .book(*day, *q0, *q1, *direction, *qr)
+                .map_or_else(Answer::Refused, Answer::Booked),
+            Call::Declare { day, q0, q1 } => self
+                .declare(*day, *q0, *q1)
+                .map_or_else(Answer::Refused, |_| Answer::Declared),
             Call::Settle { order } => self.answer_settle(*order),
-            Call::Month { year, month } => figured(self.month(*year, *month)),
+            Call::Month { year, month } => self
+                .month(*year, *month)
+                .map_or_else(Answer::Refused, Answer::Month),
         }
     }
 }
@@ -114,8 +84,9 @@ fn run_calls<S: Store + Drop, R: Rulebook + Drop>(
     ensures answers { answers.new ≡ run (meaning S.Store.model R.Rulebook.rules book.old) calls.now ++ drop (length calls.now) answers.old }
     ensures book { meaning S.Store.model R.Rulebook.rules book.new ≡ final (meaning S.Store.model R.Rulebook.rules book.old) calls.now }
 {
-    for i in 0..calls.len() {
-        answers[i] = book.answer(&calls[i]);
+    // not `answers.iter_mut().zip(calls)`: an invariant cannot name what was written through those borrows
+    for (i, call) in calls.iter().enumerate() {
+        answers[i] = book.answer(call);
     }
 }
 

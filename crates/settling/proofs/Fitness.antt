@@ -1,12 +1,12 @@
 -- What the tests of an order and its resources tell.
-use Rattle.std.proofs.Common.{◌≡◌, ℕ, ◌+◌, ◌<◌, ◌≤◌, Bool, true, ◌&&◌, ltb, leb, List, [], ◌∷◌, length, get_or, drop, ap, ◌∙◌}
-use Rattle.std.proofs.lemmas.List.{at_drop_more}
+use Rattle.std.proofs.Common.{◌≡◌, ℕ, zero, suc, ◌<◌, ◌≤◌, Bool, true, ◌&&◌, ltb, leb, List, [], ◌∷◌, length, get_or, refl, ap, arith}
+use Rattle.std.specs.List.{list_all}
 use Rattle.std.proofs.lemmas.Bool.{and_parts, leb-true, ltb-true}
 use Rattle.ledger.specs.declared.records.Order.{Order}
 use Rattle.ledger.specs.declared.records.Resource.{Resource}
 use Rattle.ledger.specs.Standing.{is_placed, are_powered}
-use Rattle.settling.specs.History.{Placed}
-use Rattle.settling.specs.Sheets.{Powered, can_settle}
+use Rattle.settling.specs.Placed.{Placed}
+use Rattle.settling.specs.Sheets.{can_settle}
 
 placed : (o : Order) → is_placed o ≡ true → Placed o
 placed o e =
@@ -22,20 +22,22 @@ placed o e =
       power_to = leb-true o.qr 128000 d.1;
     }
 
-powered : (xs : List Resource) → are_powered xs ≡ true → Powered xs
-powered [] e = tt
-powered (x ∷ xs) e = let h = and_parts (leb x.power 4000) (are_powered xs) e in (leb-true x.power 4000 h.0, powered xs h.1)
-
 pub record Fit (xs : List Resource) (o : Order) : Type 0 where
   pub many : length xs ≤ 32
   pub placed : Placed o
-  pub powered : Powered xs
+  pub powered : are_powered xs ≡ true
 
 pub fit : (xs : List Resource) (o : Order) → can_settle xs o ≡ true → Fit xs o
 fit xs o e =
     let a = and_parts (leb (length xs) 32) _ e in
     let b = and_parts (is_placed o) (are_powered xs) a.1 in
-    record { many = leb-true (length xs) 32 a.0; placed = placed o b.0; powered = powered xs b.1 }
+    record { many = leb-true (length xs) 32 a.0; placed = placed o b.0; powered = b.1 }
 
-pub powered_next : (xs : List Resource) (i : ℕ) (d : Resource) (t : Bool) → i < length xs → leb (get_or xs i d).power 4000 ≡ t → are_powered (drop i xs) ≡ (t && are_powered (drop (i + 1) xs))
-powered_next xs i d t h e = at_drop_more are_powered xs i d h ∙ ap (λ (b : Bool). b && are_powered (drop (i + 1) xs)) e
+pub powered_all : (xs : List Resource) → list_all (λ x. leb x.power 4000) xs ≡ are_powered xs
+powered_all [] = refl
+powered_all (x ∷ xs) = ap (λ (b : Bool). leb x.power 4000 && b) (powered_all xs)
+
+pub powered_at : (xs : List Resource) (i : ℕ) (d : Resource) → are_powered xs ≡ true → i < length xs → (get_or xs i d).power ≤ 4000
+powered_at [] i d e h = absurd (omega (arith, h))
+powered_at (x ∷ xs) zero d e h = leb-true x.power 4000 (and_parts (leb x.power 4000) (are_powered xs) e).0
+powered_at (x ∷ xs) (suc i) d e h = powered_at xs i d (and_parts (leb x.power 4000) (are_powered xs) e).1 (omega arith)

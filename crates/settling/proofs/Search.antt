@@ -1,21 +1,30 @@
 -- The search for history days, on the lists of the definitions.
-use Rattle.std.proofs.Common.{◌≡◌, ℕ, zero, suc, ◌+◌, ◌-◌, ◌<◌, ◌≤◌, Bool, true, false, cond, ◌&&◌, ltb, ◌≢◌, List, [], ◌∷◌, ◌++◌, length, get_or, take, set, Ok, Err, filter, sym, refl, ap, ◌∙◌, subst, inl, inr, add-zero, add-one, arith}
-use Rattle.std.proofs.lemmas.List.{take_more_set, append_assoc, append-nil, get_or-set_same, get_or-set_other}
+use Rattle.std.proofs.Common.{◌≡◌, ℕ, zero, suc, ◌+◌, ◌-◌, ◌<◌, ◌≤◌, Bool, true, false, cond, ◌&&◌, ltb, List, [], ◌∷◌, ◌++◌, length, take, Some, None, Ok, Err, filter, Option, sym, refl, ap, ◌∙◌, subst, inl, inr, add-zero, arith}
+use Rattle.std.specs.List.{list_all, range_with_len}
+use Rattle.std.proofs.lemmas.List.{append_assoc, append-nil, map_push, length-map}
 use Rattle.std.proofs.lemmas.Bool.{cases_lt, lt-ltb, le-ltb}
+use Rattle.metering.specs.declared.reading.Reading.{Reading}
 use Rattle.metering.specs.declared.curve.Curve.{Curve}
+use Rattle.metering.specs.Readings.{reading_at}
 use Rattle.ledger.specs.declared.records.Order.{Order}
-use Rattle.ledger.specs.Words.{at, is_measured, measured_in, counting, days_before, lead, ordered}
 use Rattle.ledger.specs.declared.fault.BookFault.TheVariants.{ShortHistory}
-use Rattle.ledger.specs.Settling.{latest}
-use Rattle.settling.specs.History.{Placed, passing}
+use Rattle.ledger.specs.Words.{at, is_measured, measured_in, counting, days_before, lead, ordered}
+use Rattle.ledger.specs.Settling.{Held, latest}
+use Rattle.settling.specs.declared.history_day.HistoryDay.{HistoryDay}
+use Rattle.settling.specs.Placed.{Placed}
+use Rattle.settling.specs.History.{FoundDay, NextDay, Kept, days_of, passing}
 
-pub measured_more : (c : Curve) (q b : ℕ) → q < b → measured_in c (counting q (b - q)) ≡ (is_measured (at c q) && measured_in c (counting (q + 1) (b - (q + 1))))
-measured_more c q b h =
-    let e : b - q ≡ suc (b - (q + 1)) = omega arith in
-    rw (e, add-one) refl
+-- whether a reading that may be missing is a measured one
+abbrev pub is_number : Option Reading → Bool
+is_number None = false
+is_number (Some r) = is_measured r
 
-pub measured_none : (c : Curve) (q b : ℕ) → b ≤ q → measured_in c (counting q (b - q)) ≡ true
-measured_none c q b h = let e : b - q ≡ 0 = omega arith in rw e
+-- quarters of the day, as the code goes over them
+measured_range : (c : Curve) (a n : ℕ) → a + n ≤ 96 → list_all (λ q. is_number (reading_at c.readings q)) (range_with_len a n) ≡ measured_in c (counting a n)
+measured_range c a zero h = refl
+measured_range c a (suc n) h =
+    let e : a + 1 ≡ suc a = omega arith in
+    rw e (ap (λ (b : Bool). is_number (cond b (Some (at c a)) None) && list_all (λ q. is_number (reading_at c.readings q)) (range_with_len (suc a) n)) (lt-ltb a 96 (omega arith)) ∙ ap (λ (b : Bool). is_measured (at c a) && b) (measured_range c (suc a) n (omega arith)))
 
 counting_append : (a m n : ℕ) → counting a (m + n) ≡ counting a m ++ counting (a + m) n
 counting_append a zero n = let e : 0 + n ≡ n = omega arith in rw (e, add-zero) refl
@@ -25,13 +34,16 @@ counting_append a (suc m) n =
     rw e (ap (λ (xs : List ℕ). a ∷ xs) (counting_append (suc a) m n ∙ ap (λ (k : ℕ). counting (suc a) m ++ counting k n) f))
 
 -- the lead quarters and the ordered ones follow one another
-pub lead_ordered : (o : Order) → Placed o → counting (o.q0 - 8) (o.q1 - (o.q0 - 8)) ≡ lead o ++ ordered o
+lead_ordered : (o : Order) → Placed o → counting (o.q0 - 8) (o.q1 - (o.q0 - 8)) ≡ lead o ++ ordered o
 lead_ordered o p =
     let a = p.leads in
     let b = p.rises in
     let e : o.q1 - (o.q0 - 8) ≡ 8 + (o.q1 - o.q0) = omega arith in
     let f : o.q0 - 8 + 8 ≡ o.q0 = omega arith in
     ap (counting (o.q0 - 8)) e ∙ (counting_append (o.q0 - 8) 8 (o.q1 - o.q0) ∙ ap (λ (k : ℕ). counting (o.q0 - 8) 8 ++ counting k (o.q1 - o.q0)) f)
+
+pub measured_all : (c : Curve) (o : Order) → Placed o → list_all (λ q. is_number (reading_at c.readings q)) (range_with_len (o.q0 - 8) (o.q1 - (o.q0 - 8))) ≡ measured_in c (lead o ++ ordered o)
+measured_all c o p = let e = p.ends in measured_range c (o.q0 - 8) (o.q1 - (o.q0 - 8)) (omega arith) ∙ ap (measured_in c) (lead_ordered o p)
 
 before_more : (low n : ℕ) → low < n → days_before n (n - low) ≡ (n - 1) ∷ days_before (n - 1) (n - 1 - low)
 before_more low zero h = absurd (omega arith)
@@ -58,26 +70,37 @@ pub passing_none : (t : ℕ → Bool) (low n : ℕ) → n ≤ low → passing t 
 passing_none t low zero h = let e : 0 - low ≡ 0 = omega arith in rw e
 passing_none t low (suc n) h = let e : suc n - low ≡ 0 = omega arith in rw e
 
-pub passing_yes : (t : ℕ → Bool) (low n : ℕ) → low < n → t (n - 1) ≡ true → passing t low n ≡ (n - 1) ∷ passing t low (n - 1)
+passing_yes : (t : ℕ → Bool) (low n : ℕ) → low < n → t (n - 1) ≡ true → passing t low n ≡ (n - 1) ∷ passing t low (n - 1)
 passing_yes t low n h y = ap (filter t) (before_more low n h) ∙ simp y
 
 pub passing_no : (t : ℕ → Bool) (low n : ℕ) → low < n → t (n - 1) ≡ false → passing t low n ≡ passing t low (n - 1)
 passing_no t low n h y = ap (filter t) (before_more low n h) ∙ simp y
 
--- the table's front, then what is still to come
-pub found_more : (t : ℕ → Bool) (xs all : List ℕ) (n k low b d : ℕ) → k < n → k < length xs → take k xs ++ take (n - k) (passing t low b) ≡ all → passing t low b ≡ d ∷ passing t low d → take (k + 1) (set xs k d) ++ take (n - (k + 1)) (passing t low d) ≡ all
-found_more t xs all n k low b d h l inv e =
+-- the day below n, where it passes
+pub next_is : (t : ℕ → Bool) (held : Held) (low before n : ℕ) (x : HistoryDay) → low < n → n ≤ before → passing t low before ≡ passing t low n → FoundDay (t (n - 1)) held (n - 1) (Some x) → NextDay t held low before x
+next_is t held low before n x h l e f =
+    let d = f.1 in
+    record {
+      above = omega arith;
+      below = omega arith;
+      rest = e ∙ (passing_yes t low n h f.0 ∙ ap (λ (m : ℕ). m ∷ passing t low m) (sym d));
+      curve_is = ap held d ∙ f.2;
+    }
+
+-- the days found, then what is still to come
+pub found_more : (t : ℕ → Bool) (xs : List HistoryDay) (all : List ℕ) (n k low b : ℕ) (x : HistoryDay) → k < n → days_of xs ++ take (n - k) (passing t low b) ≡ all → passing t low b ≡ x.day ∷ passing t low x.day → days_of (xs ++ (x ∷ [])) ++ take (n - (k + 1)) (passing t low x.day) ≡ all
+found_more t xs all n k low b x h inv e =
     let m : n - k ≡ suc (n - (k + 1)) = omega arith in
-    let s : take (n - k) (passing t low b) ≡ d ∷ take (n - (k + 1)) (passing t low d) = ap (λ (ys : List ℕ). take (n - k) ys) e ∙ rw m refl in
-    ap (λ (ys : List ℕ). ys ++ take (n - (k + 1)) (passing t low d)) (take_more_set xs k d l) ∙ (append_assoc (take k xs) (d ∷ []) (take (n - (k + 1)) (passing t low d)) ∙ (sym (ap (λ (ys : List ℕ). take k xs ++ ys) s) ∙ inv))
+    let s : take (n - k) (passing t low b) ≡ x.day ∷ take (n - (k + 1)) (passing t low x.day) = ap (λ (ys : List ℕ). take (n - k) ys) e ∙ rw m refl in
+    ap (λ (ys : List ℕ). ys ++ take (n - (k + 1)) (passing t low x.day)) (map_push (λ (y : HistoryDay). y.day) xs x) ∙ (append_assoc (days_of xs) (x.day ∷ []) (take (n - (k + 1)) (passing t low x.day)) ∙ (sym (ap (λ (ys : List ℕ). days_of xs ++ ys) s) ∙ inv))
 
-pub found_all : (t : ℕ → Bool) (xs all : List ℕ) (n k low b : ℕ) → n ≤ k → take k xs ++ take (n - k) (passing t low b) ≡ all → take k xs ≡ all
-found_all t xs all n k low b h inv = let e : n - k ≡ 0 = omega arith in sym (append-nil (take k xs)) ∙ (rw e at inv)
+pub found_all : (t : ℕ → Bool) (xs all : List ℕ) (n k low b : ℕ) → n ≤ k → xs ++ take (n - k) (passing t low b) ≡ all → xs ≡ all
+found_all t xs all n k low b h inv = let e : n - k ≡ 0 = omega arith in sym (append-nil xs) ∙ (rw e at inv)
 
-pub found_short : (t : ℕ → Bool) (xs all : List ℕ) (n k low b : ℕ) → passing t low b ≡ [] → take k xs ++ take (n - k) (passing t low b) ≡ all → take k xs ≡ all
+pub found_short : (t : ℕ → Bool) (xs all : List ℕ) (n k low b : ℕ) → passing t low b ≡ [] → xs ++ take (n - k) (passing t low b) ≡ all → xs ≡ all
 found_short t xs all n k low b e inv =
     let z : take (n - k) (passing t low b) ≡ [] = ap (λ (ys : List ℕ). take (n - k) ys) e ∙ none (n - k) in
-    sym (append-nil (take k xs)) ∙ (sym (ap (λ (ys : List ℕ). take k xs ++ ys) z) ∙ inv)
+    sym (append-nil xs) ∙ (sym (ap (λ (ys : List ℕ). xs ++ ys) z) ∙ inv)
   where
     none : (m : ℕ) → take {A = ℕ} m [] ≡ []
     none zero = refl
@@ -104,9 +127,10 @@ latest_few r n t d low k xs e p l h =
 pub latest_are : (r n : ℕ) (t : ℕ → Bool) (d low : ℕ) (xs : List ℕ) → low ≡ d - 400 → xs ≡ take n (passing t low d) → length xs ≡ n → Ok xs ≡ latest r n t d
 latest_are r n t d low xs e p l = enough r n xs _ (back t n d low xs e p) (le-ltb _ _ (omega (arith, l)))
 
-pub earlier_more : (xs : List ℕ) (i d D : ℕ) → i < length xs → d < D → ((k : ℕ) → k < i → get_or xs k 0 < D) → (k : ℕ) → k < i + 1 → get_or (set xs i d) k 0 < D
-earlier_more xs i d D l h p k q =
-    elim (cases_lt k i) [
-      | inl b ↦ (let ne : k ≢ i = omega arith in rw get_or-set_other (p k b))
-      | inr b ↦ (let e : i ≡ k = omega arith in let P : ℕ → Type 0 = λ m. get_or (set xs i d) m 0 < D in subst P e (rw get_or-set_same h))
-    ]
+-- one more day, with the curve held for it
+pub kept_more : (held : Held) (xs : List HistoryDay) (x : HistoryDay) → Kept held xs → held x.day ≡ Some x.curve → Kept held (xs ++ (x ∷ []))
+kept_more held [] x k e = (e, tt)
+kept_more held (y ∷ ys) x k e = (k.0, kept_more held ys x k.1 e)
+
+pub length_days : (xs : List HistoryDay) (n : ℕ) → length xs ≡ n → length (days_of xs) ≡ n
+length_days xs n e = length-map xs (λ x. x.day) ∙ e

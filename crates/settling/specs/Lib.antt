@@ -1,3 +1,4 @@
+pub mod Placed
 pub mod History
 pub mod Evidence
 pub mod Outcomes

@@ -1,5 +1,5 @@
 -- The parts of all resources, as the code gathers them.
-use Rattle.std.specs.Prelude.{◌≡◌, ℕ, ◌*◌, ◌≤◌, Bool, not, ◌&&◌, List, [], ◌∷◌, ◌++◌, length, drop, ℤ, Ok, Err, nat_le, nat_lt}
+use Rattle.std.specs.Prelude.{ℕ, ◌*◌, Bool, not, ◌&&◌, List, ◌++◌, length, drop, ℤ, Ok, Err, nat_le, nat_lt}
 use Rattle.rulebooks.specs.Rules.{Rules}
 use Rattle.ledger.specs.declared.fault.BookFault.TheVariants.{Number, ShortMemory}
 use Rattle.ledger.specs.declared.terms.Terms.{Terms}
@@ -8,14 +8,9 @@ use Rattle.ledger.specs.declared.records.Booked.{Booked}
 use Rattle.ledger.specs.declared.records.Outcome.{Outcome}
 use Rattle.ledger.specs.declared.records.Resource.{Resource}
 use Rattle.ledger.specs.Words.{Granted, ◌>>=◌, unless}
-use Rattle.ledger.specs.Settling.{Held, parts, Part, outcome_of, sum_of, any_estimated, evidence}
+use Rattle.ledger.specs.Settling.{Held, parts, Part, outcome_of, evidence}
 use Rattle.ledger.specs.Book.{orders_in, busy_on}
 use Rattle.ledger.specs.Standing.{is_placed, are_powered}
-
--- every resource has at most 4000 kW
-abbrev pub Powered : List Resource → Type 0
-Powered [] = Unit {0}
-Powered (x ∷ xs) = (x.power ≤ 4000) × Powered xs
 
 abbrev pub settled_at : Terms → Order → Granted (List Part) → Granted Outcome
 settled_at t o m = m >>= (λ ps. Ok (outcome_of t o ps))
@@ -24,11 +19,6 @@ settled_at t o m = m >>= (λ ps. Ok (outcome_of t o ps))
 abbrev pub sheet_of : Granted (List Part) → List ℤ → List ℤ
 sheet_of (Ok ps) ws = evidence ps ++ drop (length (evidence ps)) ws
 sheet_of (Err e) ws = ws
-
--- rows, sum and mark are those of the parts so far
-abbrev pub Along : Granted (List Part) → List ℤ → ℤ → Bool → Type 0
-Along (Ok ps) ws sum estimated = (evidence ps ≡ ws) × (sum_of ps ≡ sum) × (any_estimated ps ≡ estimated)
-Along (Err e) ws sum estimated = ⊥
 
 -- no book has more resources, or others, than these; nor another order
 abbrev pub can_settle : List Resource → Order → Bool

@@ -1,152 +1,94 @@
 // The history of an order at one resource: which days can stand in it, and the latest of them.
-ghost use Rattle.std.specs.Prelude.{◌≡◌, ℕ, ◌-◌, ◌<◌, ◌≤◌, [], ◌∷◌, ◌++◌, IfOk, MatchOption, slice_index};
-ghost use Rattle.ledger.specs.Words.{at as quarter_of, is_measured, measured_in, counting, lead, ordered};
-ghost use Rattle.ledger.specs.Settling.{is_whole, latest as latest_of};
-ghost use Rattle.settling.specs.History.{Placed, FoundOn, fits, passing, days_in};
+ghost use Rattle.std.specs.Prelude.{◌≡◌, ℕ, ◌≤◌, [], ◌++◌, IfOk, MatchOption};
+ghost use Rattle.ledger.specs.Words.{measured_in, lead, ordered};
+ghost use Rattle.ledger.specs.Settling.{is_whole, needs, latest as latest_of};
+ghost use Rattle.settling.specs.History.{FoundOn, FoundDay, NextDay, Kept, fits, passing, days_in};
 
+use crate::context::OrderContext;
+use crate::history_day::{History, HistoryDay};
+use crate::numbered::NumberedResource;
 use ledger::days::{in_kinds, is_busy};
 use ledger::fault::BookFault;
-use ledger::records::{Booked, Order};
-use ledger::terms::Terms;
 use metering::curve::Curve;
 use metering::reading::Reading;
+use rulebooks::Rulebook;
 use stores::store::Store;
 
 // How many days before an order are searched.
 const REACH: u32 = 400;
 
-// The most days that a rulebook asks for.
-const MOST_DAYS: usize = 15;
-
-fn is_measured(curve: &Curve, quarter: u32) -> bool
-    requires { quarter < 96 }
-    ensures { result ≡ is_measured (quarter_of curve.now quarter) }
-{
-    match curve.reading(quarter) {
-        Some(Reading::Measured(_)) => true,
-        Some(Reading::Estimated) => false,
-        None => false,
+impl<S: Store, R: Rulebook> OrderContext<'_, S, R> {
+    // No quarter of the order, nor of the lead before it, is estimated.
+    pub(crate) fn is_clean(&self, curve: &Curve) -> bool
+        ensures { result ≡ measured_in curve.now (lead self.now.order ++ ordered self.now.order) }
+    {
+        (self.order.q0 - 8..self.order.q1).all(|quarter| matches!(
+            curve.reading(quarter),
+            Some(Reading::Measured(_))
+        ))
     }
-}
 
-fn is_measured_in(curve: &Curve, from: u32, to: u32) -> bool
-    requires { to ≤ 96 }
-    ensures { result ≡ measured_in curve.now (counting from (to - from)) }
-{
-    for quarter in from..to {
-        if !is_measured(curve, quarter) {
-            return false;
+    // The curve of a day, where it is held and clean.
+    pub(crate) fn clean_curve(&self, resource: u32, day: u32) -> Option<Curve>
+        ensures { FoundOn (is_whole ((S.Store.model self.now.store.now).look resource day) (lead self.now.order ++ ordered self.now.order)) ((S.Store.model self.now.store.now).look resource day) result }
+    {
+        let curve = self.store.curve(resource, day)?;
+        self.is_clean(&curve).then_some(curve)
+    }
+
+    // A day that can stand in the history; the store is asked last, since a look-up can be a pass over a whole journal.
+    fn qualifying(&self, resource: u32, day: u32) -> Option<HistoryDay>
+        ensures { FoundDay (fits self.now.terms.now ((S.Store.model self.now.store.now).look resource) self.now.booked.now self.now.order day) ((S.Store.model self.now.store.now).look resource) day result }
+    {
+        if in_kinds(self.terms, day) && !is_busy(self.booked, day) {
+            let curve = self.clean_curve(resource, day)?;
+            Some(HistoryDay { day, curve })
+        } else {
+            None
         }
     }
-    true
-}
 
-// No quarter of the order, nor of the lead before it, is estimated.
-pub(crate) fn is_clean(curve: &Curve, order: Order) -> bool
-    requires { Placed order }
-    ensures { result ≡ measured_in curve.now (lead order ++ ordered order) }
-{
-    is_measured_in(curve, order.q0 - 8, order.q1)
-}
-
-// The curve of a day, where it is held and clean.
-pub(crate) fn clean_curve<S: Store>(
-    store: &S,
-    resource: u32,
-    order: Order,
-    day: u32,
-) -> Option<Curve>
-    requires { Placed order }
-    ensures { FoundOn (is_whole ((S.Store.model store.now).look resource day) (lead order ++ ordered order)) ((S.Store.model store.now).look resource day) result }
-{
-    match store.curve(resource, day) {
-        Some(curve) => {
-            if is_clean(&curve, order) {
-                Some(curve)
-            } else {
-                None
+    // The latest day that qualifies, before one day and not before another.
+    // A loop: of `find_map` on a reversed range, the days passed over would have to be walked by hand, longer than here.
+    fn next_day(&self, resource: u32, low: u32, before: u32) -> Option<HistoryDay>
+        ensures { MatchOption result (passing (fits self.now.terms.now ((S.Store.model self.now.store.now).look resource) self.now.booked.now self.now.order) low before ≡ []) (NextDay (fits self.now.terms.now ((S.Store.model self.now.store.now).look resource) self.now.booked.now self.now.order) ((S.Store.model self.now.store.now).look resource) low before) }
+    {
+        for day in (low..before).rev() {
+            if let Some(found) = self.qualifying(resource, day) {
+                return Some(found);
             }
         }
-        None => None,
+        None
     }
-}
 
-fn has_clean<S: Store>(store: &S, resource: u32, order: Order, day: u32) -> bool
-    requires { Placed order }
-    ensures { result ≡ is_whole ((S.Store.model store.now).look resource day) (lead order ++ ordered order) }
-{
-    clean_curve(store, resource, order, day).is_some()
-}
+    // The days that a registered choice needs.
+    fn days_needed(&self, one: NumberedResource) -> usize
+        ensures days { result ≡ needs (R.Rulebook.rules self.now.rules.now) one.resource }
+        ensures few { result ≤ 15 }
+    {
+        self.rules.days(one.resource.choice).map_or(0, usize::from)
+    }
 
-pub(crate) fn qualifies<S: Store>(
-    terms: &Terms,
-    store: &S,
-    resource: u32,
-    orders: &[Booked],
-    order: Order,
-    day: u32,
-) -> bool
-    requires { Placed order }
-    ensures { result ≡ fits terms.now ((S.Store.model store.now).look resource) orders.now order day }
-{
-    in_kinds(terms, day) && !is_busy(orders, day) && has_clean(store, resource, order, day)
-}
-
-// The latest day that qualifies, before one day and not before another.
-pub(crate) fn next_day<S: Store>(
-    terms: &Terms,
-    store: &S,
-    resource: u32,
-    orders: &[Booked],
-    order: Order,
-    low: u32,
-    before: u32,
-) -> Option<u32>
-    requires { Placed order }
-    ensures { MatchOption result (passing (fits terms.now ((S.Store.model store.now).look resource) orders.now order) low before ≡ []) (λ d. (low ≤ d) × (d < before) × (passing (fits terms.now ((S.Store.model store.now).look resource) orders.now order) low before ≡ d ∷ passing (fits terms.now ((S.Store.model store.now).look resource) orders.now order) low d)) }
-{
-    for day in (low..before).rev() {
-        if qualifies(terms, store, resource, orders, order, day) {
-            return Some(day);
+    // The latest days that qualify, as many as are needed, of the 400 before the order's; refused with the number found
+    // where there are fewer.
+    pub(crate) fn latest(&self, one: NumberedResource) -> Result<History, BookFault>
+        ensures days { days_in result ≡ latest_of one.number (needs (R.Rulebook.rules self.now.rules.now) one.resource) (fits self.now.terms.now ((S.Store.model self.now.store.now).look one.number) self.now.booked.now self.now.order) self.now.order.day }
+        ensures curves { IfOk result (λ x. Kept ((S.Store.model self.now.store.now).look one.number) x.items) }
+    {
+        let low = self.order.day.saturating_sub(REACH);
+        let n = self.days_needed(one);
+        let mut days = History::new();
+        let mut before = self.order.day;
+        for _ in 0..n {
+            let Some(next) = self.next_day(one.number, low, before) else {
+                return Err(BookFault::ShortHistory {
+                    resource: one.number,
+                    found: days.len() as u32,
+                });
+            };
+            before = next.day;
+            days.push(next);
         }
+        Ok(days)
     }
-    None
-}
-
-// History days, latest first: the first `count` of the table.
-#[derive(Clone, Copy)]
-pub(crate) struct Days {
-    pub at: [u32; 15],
-    pub count: usize,
-}
-
-// The latest n days that qualify, of the 400 before the order's; refused with the number found where there are fewer.
-pub(crate) fn latest<S: Store>(
-    terms: &Terms,
-    store: &S,
-    resource: u32,
-    orders: &[Booked],
-    order: Order,
-    n: usize,
-) -> Result<Days, BookFault>
-    requires placed { Placed order }
-    requires few { n ≤ 15 }
-    ensures days { days_in result ≡ latest_of resource n (fits terms.now ((S.Store.model store.now).look resource) orders.now order) order.day }
-    ensures number { IfOk result (λ x. x.count ≡ n) }
-    ensures earlier { IfOk result (λ x. (k : ℕ) → k < n → slice_index x.at k < order.day) }
-{
-    let low = order.day.saturating_sub(REACH);
-    let mut at = [0u32; MOST_DAYS];
-    let mut before = order.day;
-    for found in 0..n {
-        let Some(day) = next_day(terms, store, resource, orders, order, low, before) else {
-            return Err(BookFault::ShortHistory {
-                resource,
-                found: found as u32,
-            });
-        };
-        at[found] = day;
-        before = day;
-    }
-    Ok(Days { at, count: n })
 }

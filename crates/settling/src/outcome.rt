@@ -1,73 +1,72 @@
 // What an order settles at, from the sum of the contributions.
-ghost use Rattle.std.specs.Prelude.{◌≡◌, ℕ, ◌≤◌};
+ghost use Rattle.std.specs.Prelude.{◌≡◌};
 ghost use Rattle.ledger.specs.Settling.{positive as positive_of, ordered_energy, paid_energy, cents as cents_of};
-ghost use Rattle.settling.specs.History.{Placed};
 ghost use Rattle.settling.specs.Outcomes.{delivered_by, outcome_by};
 
-use ledger::records::{Order, Outcome};
+use crate::context::OrderContext;
+use ledger::records::Outcome;
 use ledger::terms::Terms;
 use rulebooks::round_div;
 
 fn positive(z: i64) -> u64
     ensures { result ≡ positive_of z }
 {
-    if z > 0 { z as u64 } else { 0 }
-}
-
-// The ordered energy, in Wh.
-fn ordered_energy(order: Order) -> u64
-    requires { Placed order }
-    ensures value { result ≡ ordered_energy order }
-    ensures within { result ≤ 3072000000 }
-{
-    order.qr as u64 * (order.q1 - order.q0) as u64 * 250
+    z.max(0) as u64
 }
 
 // With an estimated resource at most what was ordered.
-fn delivered(sum: i64, estimated: bool, full: u64) -> u64
+fn delivered(sum: i64, estimated: bool, full: u32) -> u64
     ensures { result ≡ delivered_by sum estimated full }
 {
+    let energy = positive(sum);
     if estimated {
-        return positive(sum).min(full);
+        energy.min(full.into())
+    } else {
+        energy
     }
-    positive(sum)
 }
 
 // Under six tenths of the ordered energy nothing is paid.
-fn paid_energy(full: u64, energy: u64) -> u64
-    requires whole { full ≤ 3072000000 }
-    requires part { energy ≤ 3072000000 }
-    ensures value { result ≡ paid_energy full energy }
-    ensures within { result ≤ 3072000000 }
+fn paid_energy(full: u32, energy: u32) -> u32
+    ensures { result ≡ paid_energy full energy }
 {
-    if 5 * energy < 3 * full { 0 } else { energy }
-}
-
-fn cents(energy: u64, uf: u32) -> u64
-    requires size { energy ≤ 3072000000 }
-    requires price { uf ≤ 100000 }
-    ensures { result ≡ cents_of energy uf }
-{
-    match round_div((energy * uf as u64) as i64, 100_000) {
-        Some(rounded) => positive(rounded),
-        None => 0,
+    if 5 * u64::from(energy) < 3 * u64::from(full) {
+        0
+    } else {
+        energy
     }
 }
 
-pub(crate) fn outcome_by(terms: &Terms, order: Order, sum: i64, estimated: bool) -> Outcome
-    requires { Placed order }
-    ensures { result ≡ outcome_by terms.now order sum estimated }
+fn cents(terms: &Terms, energy: u32) -> u64
+    ensures { result ≡ cents_of energy terms.now.uf }
 {
-    let eda = ordered_energy(order);
-    let pta = delivered(sum, estimated, eda);
-    let seta = pta.min(eda);
-    let paid = paid_energy(eda, seta);
-    Outcome {
-        sum,
-        pta,
-        eda,
-        seta,
-        paid,
-        pay: cents(paid, terms.uf),
+    let price = i64::from(energy) * i64::from(terms.uf);
+    round_div(price, 100_000).map_or(0, positive)
+}
+
+impl<S, R> OrderContext<'_, S, R> {
+    // In Wh.
+    fn ordered_energy(&self) -> u32
+        ensures { result ≡ ordered_energy self.now.order }
+    {
+        self.order.qr * (self.order.q1 - self.order.q0) * 250
+    }
+
+    pub(crate) fn outcome(&self, sum: i64, estimated: bool) -> Outcome
+        ensures { result ≡ outcome_by self.now.terms.now self.now.order sum estimated }
+    {
+        let eda = self.ordered_energy();
+        let pta = delivered(sum, estimated, eda);
+        // At most the ordered energy, so it fits.
+        let seta = pta.min(eda.into()) as u32;
+        let paid = paid_energy(eda, seta);
+        Outcome {
+            sum,
+            pta,
+            eda: eda.into(),
+            seta: seta.into(),
+            paid: paid.into(),
+            pay: cents(self.terms, paid),
+        }
     }
 }

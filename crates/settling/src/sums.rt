@@ -1,90 +1,47 @@
 // The sums that a rulebook is asked about, and what a resource contributes to an order.
-ghost use Rattle.std.specs.Prelude.{◌≡◌, ℕ, ◌-◌, ◌<◌, ◌≤◌, length, ℤ};
-ghost use Rattle.ledger.specs.Words.{at as quarter_of, worth, toward as toward_of, ordered, total_of};
-ghost use Rattle.ledger.specs.Settling.{reading_on, direction_number};
-ghost use Rattle.settling.specs.History.{Placed, Near, NearOf, worth_of, summed, lead_summed, lead_sum, quarter_by};
+ghost use Rattle.std.specs.Prelude.{◌≡◌, ℕ, ◌<◌, ℤ};
+ghost use Rattle.ledger.specs.Words.{at as quarter_of, worth, toward as toward_of, lead, ordered, total, total_of};
+ghost use Rattle.rulebooks.specs.Rules.{answered};
+ghost use Rattle.ledger.specs.Settling.{ruled_at, direction_number};
+ghost use Rattle.settling.specs.History.{Near, NearOf, summed_in, quarter_with};
 
+use crate::context::OrderContext;
+use crate::history_day::History;
+use crate::numbered::NumberedResource;
 use ledger::fault::BookFault;
-use ledger::records::{Direction, Order, Resource};
+use ledger::records::Direction;
 use metering::curve::Curve;
 use metering::reading::Reading;
-use rulebooks::Rulebook;
-use stores::store::Store;
+use rulebooks::{Question, Rulebook};
 
-fn worth_of(reading: Option<Reading>) -> i32
-    ensures { result ≡ worth_of reading }
-{
-    match reading {
-        Some(Reading::Measured(wh)) => wh,
-        Some(Reading::Estimated) => 0,
-        None => 0,
-    }
+// What a resource is settled by where its history settles it: the day's curve, the history days, the lead sums of both.
+#[derive(Clone, Copy)]
+pub(crate) struct Measured<'a> {
+    pub one: NumberedResource,
+    pub today: &'a Curve,
+    pub history: &'a History,
+    pub lead_now: i64,
+    pub lead_then: i64,
 }
 
 fn worth_at(curve: &Curve, quarter: u32) -> i64
-    requires { quarter < 96 }
     ensures value { result ≡ worth (quarter_of curve.now quarter) }
     ensures within { Near 1000000 result }
 {
-    worth_of(curve.reading(quarter)) as i64
+    i64::from(curve.reading(quarter).map_or(0, Reading::counted))
 }
 
-fn worth_on<S: Store>(store: &S, resource: u32, day: u32, quarter: u32) -> i64
-    requires { quarter < 96 }
-    ensures value { result ≡ reading_on ((S.Store.model store.now).look resource day) quarter }
-    ensures within { Near 1000000 result }
-{
-    worth_of(store.reading(resource, day, quarter)) as i64
-}
-
-// S: a quarter over the history days.
-fn sum_over<S: Store>(store: &S, resource: u32, days: &[u32], quarter: u32) -> i64
-    requires few { length days.now ≤ 15 }
-    requires place { quarter < 96 }
-    ensures value { result ≡ summed ((S.Store.model store.now).look resource) days.now quarter }
+// S: a quarter over the history days. A loop, since nothing bounds what an iterator of signed numbers sums to.
+// Not one generic sum with `lead_sum`: each caller would have to prove what its iterator yields, for two loops of three lines.
+fn sum_over(history: &History, quarter: u32) -> i64
+    ensures value { result ≡ summed_in history.now.items quarter }
     ensures within { Near 15000000 result }
 {
-    let mut sum = 0i64;
-    for day in days {
-        sum += worth_on(store, resource, *day, quarter);
+    let mut sum = 0;
+    for day in history.as_slice() {
+        sum += worth_at(&day.curve, quarter);
     }
     sum
-}
-
-// L: the lead quarters over the history days.
-pub(crate) fn lead_over<S: Store>(store: &S, resource: u32, days: &[u32], order: Order) -> i64
-    requires few { length days.now ≤ 15 }
-    requires placed { Placed order }
-    ensures value { result ≡ lead_summed ((S.Store.model store.now).look resource) order days.now }
-    ensures within { Near 120000000 result }
-{
-    let mut sum = 0i64;
-    for quarter in order.q0 - 8..order.q0 {
-        sum += sum_over(store, resource, days, quarter);
-    }
-    sum
-}
-
-// C: the lead quarters on the order's day.
-pub(crate) fn lead_on(curve: &Curve, order: Order) -> i64
-    requires { Placed order }
-    ensures value { result ≡ lead_sum order curve.now }
-    ensures within { Near 8000000 result }
-{
-    let mut sum = 0i64;
-    for quarter in order.q0 - 8..order.q0 {
-        sum += worth_at(curve, quarter);
-    }
-    sum
-}
-
-fn direction_number(direction: Direction) -> u8
-    ensures { result ≡ direction_number direction }
-{
-    match direction {
-        Direction::Up => 0,
-        Direction::Down => 1,
-    }
 }
 
 fn toward(direction: Direction, z: i64) -> i64
@@ -98,62 +55,77 @@ fn toward(direction: Direction, z: i64) -> i64
     }
 }
 
-// One quarter: how far its reading lies from its baseline, in the ordered direction.
-fn quarter_of<S: Store, R: Rulebook>(
-    store: &S,
-    rules: &R,
-    order: Order,
-    number: u32,
-    resource: Resource,
-    days: &[u32],
-    curve: &Curve,
-    l: i64,
-    c: i64,
-    quarter: u32,
-) -> Result<i64, BookFault>
-    requires few { length days.now ≤ 15 }
-    requires place { quarter < 96 }
-    ensures value { result ≡ quarter_by (R.Rulebook.rules rules.now) ((S.Store.model store.now).look number) order number resource days.now curve.now l c quarter }
-    ensures within { NearOf 11000000 result }
-{
-    match rules.baseline(
-        resource.choice,
-        direction_number(order.direction),
-        sum_over(store, number, days, quarter),
-        l,
-        c,
-    ) {
-        Ok(baseline) => Ok(toward(order.direction, worth_at(curve, quarter) - baseline)),
-        Err(fault) => Err(BookFault::Rule {
-            resource: number,
-            quarter,
-            fault,
-        }),
+impl<S, R> OrderContext<'_, S, R> {
+    // The sum of what each of the eight lead quarters counts; a loop for the same reason.
+    fn lead_sum<F: Fn(u32) -> i64>(&self, counted: F) -> i64
+        requires callable { F.IsAlwaysCallable counted }
+        requires near { (q : ℕ) (z : ℤ) → q < 96 → F.post counted q z → Near 15000000 z }
+        ensures value { (of : ℕ → ℤ) → ((q : ℕ) (z : ℤ) → q < 96 → F.post counted q z → z ≡ of q) → result ≡ total of (lead self.now.order) }
+        ensures within { Near 120000000 result }
+    {
+        let mut sum = 0;
+        for quarter in self.order.q0 - 8..self.order.q0 {
+            sum += counted(quarter);
+        }
+        sum
+    }
+
+    // L: the lead quarters over the history days.
+    pub(crate) fn lead_over(&self, history: &History) -> i64
+        ensures value { result ≡ total (summed_in history.now.items) (lead self.now.order) }
+        ensures within { Near 120000000 result }
+    {
+        self.lead_sum(|quarter| sum_over(history, quarter))
+    }
+
+    // C: the lead quarters on the order's day.
+    pub(crate) fn lead_on(&self, curve: &Curve) -> i64
+        ensures value { result ≡ total (λ q. worth (quarter_of curve.now q)) (lead self.now.order) }
+        ensures within { Near 120000000 result }
+    {
+        self.lead_sum(|quarter| worth_at(curve, quarter))
     }
 }
 
-// The quarters of the order; the first that the rulebook refuses ends it.
-pub(crate) fn contribution<S: Store, R: Rulebook>(
-    store: &S,
-    rules: &R,
-    order: Order,
-    number: u32,
-    resource: Resource,
-    days: &[u32],
-    curve: &Curve,
-    l: i64,
-    c: i64,
-) -> Result<i64, BookFault>
-    requires few { length days.now ≤ 15 }
-    requires placed { Placed order }
-    ensures value { result ≡ total_of (quarter_by (R.Rulebook.rules rules.now) ((S.Store.model store.now).look number) order number resource days.now curve.now l c) (ordered order) }
-    ensures within { NearOf 1056000000 result }
-{
-    let mut sum = 0i64;
-    for quarter in order.q0..order.q1 {
-        sum += quarter_of(
-            store, rules, order, number, resource, days, curve, l, c, quarter,
-        )?;
+impl<S, R: Rulebook> OrderContext<'_, S, R> {
+    // The baseline of a quarter; a refusal of the rulebook tells the resource and the quarter.
+    fn baseline(&self, measured: &Measured, quarter: u32) -> Result<i64, BookFault>
+        ensures value { result ≡ ruled_at measured.now.one.number quarter (answered (R.Rulebook.rules self.now.rules.now) measured.now.one.resource.choice (direction_number self.now.order.direction) (summed_in measured.now.history.now.items quarter) measured.now.lead_then measured.now.lead_now) }
+        ensures within { NearOf 10000000 result }
+    {
+        let asked = Question {
+            choice: measured.one.resource.choice,
+            direction: self.order.direction.into(),
+            s: sum_over(measured.history, quarter),
+            l: measured.lead_then,
+            c: measured.lead_now,
+        };
+        let resource = measured.one.number;
+        self.rules.baseline(asked).map_err(|fault| BookFault::Rule {
+            resource,
+            quarter,
+            fault,
+        })
     }
-    Ok(sum)
+
+    // One quarter: how far its reading lies from its baseline, in the ordered direction.
+    fn quarter_of(&self, measured: &Measured, quarter: u32) -> Result<i64, BookFault>
+        ensures value { result ≡ quarter_with (R.Rulebook.rules self.now.rules.now) (summed_in measured.now.history.now.items) self.now.order measured.now.one.number measured.now.one.resource measured.now.today.now measured.now.lead_then measured.now.lead_now quarter }
+        ensures within { NearOf 11000000 result }
+    {
+        let distance = worth_at(measured.today, quarter) - self.baseline(measured, quarter)?;
+        Ok(toward(self.order.direction, distance))
+    }
+
+    // The quarters of the order; the first that the rulebook refuses ends it: a loop, since its body has a `?`.
+    pub(crate) fn contribution(&self, measured: &Measured) -> Result<i64, BookFault>
+        ensures value { result ≡ total_of (quarter_with (R.Rulebook.rules self.now.rules.now) (summed_in measured.now.history.now.items) self.now.order measured.now.one.number measured.now.one.resource measured.now.today.now measured.now.lead_then measured.now.lead_now) (ordered self.now.order) }
+        ensures within { NearOf 1056000000 result }
+    {
+        let mut sum = 0;
+        for quarter in self.order.q0..self.order.q1 {
+            sum += self.quarter_of(measured, quarter)?;
+        }
+        Ok(sum)
+    }
 }

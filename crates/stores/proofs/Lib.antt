@@ -1,3 +1,8 @@
 pub mod Pinning
 pub mod OneLayout
+mod Ringed
 pub mod Writing
+pub mod Filled
+mod Counting
+mod Backward
+mod Alone

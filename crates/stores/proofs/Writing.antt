@@ -1,5 +1,5 @@
 -- A part of a memory written over, and a row written reading by reading.
-use Rattle.std.proofs.Common.{◌≡◌, ℕ, ◌+◌, ◌-◌, ◌<◌, ◌≤◌, List, ◌++◌, length, get_or, take, drop, append_assoc, arith, length-append}
+use Rattle.std.proofs.Common.{◌≡◌, ℕ, ◌+◌, ◌-◌, ◌<◌, ◌≤◌, ℤ, subst, List, ◌++◌, length, get_or, take, drop, append_assoc, arith, length-append}
 use borrow.Rule.Slice.PartMut.{put_mid}
 use Rattle.std.specs.List.{flat_map}
 use Rattle.std.proofs.lemmas.List.{drop-drop, take_at, take_more, flat_map_more, length-take}
@@ -21,3 +21,7 @@ one_more row after head rs at n i d v e ev fits lt en inv =
     let j = flat_map_more reading_bytes head (take i rs) v in
     let m = take_more rs i d lt in
     cc
+
+-- the same words under another name, at the same place
+pub in_place : (W : List ℤ → List ℤ → ℕ → Type 0) (bs ws vs : List ℤ) (a b : ℕ) → bs ≡ ws → a ≡ b → W bs vs a → W ws vs b
+in_place W bs ws vs a b e f w = subst (W ws vs) f (subst (λ xs. W xs vs a) e w)

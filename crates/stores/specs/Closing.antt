@@ -3,11 +3,13 @@ use Rattle.std.specs.Prelude.{◌≡◌, ℕ, zero, suc, ◌+◌, ◌-◌, ◌*�
 use Rattle.std.proofs.Common.{sym, ap, subst, ◌∙◌, inl, inr, add-one, arith, length-append}
 use Rattle.std.proofs.Math.Seq.{paste}
 use Rattle.std.specs.List.{flat_map}
-use Rattle.std.proofs.lemmas.List.{append-nil, append_assoc, take_at, drop_at, take-take, drop-take, drop-drop, get_or-drop, length_push, length-drop}
+use Rattle.std.proofs.lemmas.List.{append-nil, take_at, drop_at, take-take, drop-take, drop-drop, get_or-drop, length_push, length-drop}
+use Rattle.std.proofs.lemmas.Grind.{flat_map-append}
 use Rattle.std.proofs.lemmas.List.Edits.{take-paste, drop-paste}
 use Rattle.std.proofs.lemmas.Bool.{le-leb, lt-leb, cases_lt}
 use Rattle.metering.specs.declared.reading.Reading.{Reading}
-use Rattle.stores.specs.Rows.{Row, upto, reading_bytes, row_bytes, written, day_from, row_at, rows_in, reading_from, word_at, since}
+use Rattle.stores.specs.Words.{upto}
+use Rattle.stores.specs.Rows.{Row, reading_bytes, row_bytes, written, day_from, row_at, rows_in, reading_from, word_at, since}
 use Rattle.stores.specs.Upto.{upto_none, upto_more, length_upto, kept_yes, kept_no}
 
 length_readings : (rs : List Reading) → length (flat_map reading_bytes rs) ≡ 4 * length rs
@@ -22,8 +24,7 @@ pub length_row_at : (bs : List ℕ) (a : ℕ) → length (row_bytes (row_at bs a
 length_row_at bs a = length_row (row_at bs a) (length_upto (λ q. reading_from (word_at bs (a + 3 + 4 * q))) 96)
 
 pub written_append : (xs ys : List Row) → written (xs ++ ys) ≡ written xs ++ written ys
-written_append [] ys = refl
-written_append (x ∷ xs) ys = ap (λ zs. row_bytes x ++ zs) (written_append xs ys) ∙ sym (append_assoc (row_bytes x) (written xs) (written ys))
+written_append xs ys = flat_map-append row_bytes xs ys
 
 pub written_push : (xs : List Row) (x : Row) → written (xs ++ (x ∷ [])) ≡ written xs ++ row_bytes x
 written_push xs x = written_append xs (x ∷ []) ∙ ap (λ zs. written xs ++ zs) (append-nil (row_bytes x))

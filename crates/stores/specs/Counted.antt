@@ -4,30 +4,11 @@ use Rattle.std.proofs.Common.{sym, ap, subst, ◌∙◌, inl, inr, arith}
 use Rattle.std.proofs.lemmas.Bool.{and_parts, cases_Bool, cases_eq, eq-eqb, ne_eqb, eqb-true, not-true, cond-true, cond-false, and_left, and_right, and_from}
 use Rattle.metering.specs.declared.curve.Curve.{Curve}
 use Rattle.metering.specs.Curves.{curve_of}
+use Rattle.std.specs.List.{list_all}
 use Rattle.stores.specs.Model.{StoreModel, sum_below, one, held_from}
-use Rattle.stores.specs.Rows.{Row, is_of, held_in, since, all_by, apart, fine}
+use Rattle.stores.specs.Rows.{Row, is_of, held_in, since, apart, fine}
+use Rattle.stores.specs.Counts.{sum_none, sum_suc as sum_more, sum_same, sum_zero}
 use Rattle.stores.specs.Reread.{fine_parts}
-
-pub sum_none : (f : ℕ → ℕ) → sum_below f 0 ≡ 0
-unfolding sum_below
-sum_none f = refl
-
-pub sum_more : (f : ℕ → ℕ) (n : ℕ) → sum_below f (suc n) ≡ sum_below f n + f n
-unfolding sum_below
-sum_more f n = refl
-
-pub sum_same : (f g : ℕ → ℕ) (n : ℕ) → ((k : ℕ) → k < n → f k ≡ g k) → sum_below f n ≡ sum_below g n
-sum_same f g zero h = sum_none f ∙ sym (sum_none g)
-sum_same f g (suc n) h =
-    let e = sum_same f g n (λ k l. h k (omega arith)) in
-    let x = h n (omega arith) in
-    let a = sum_more f n in
-    let b = sum_more g n in
-    omega arith
-
-pub sum_zero : (f : ℕ → ℕ) (n : ℕ) → ((k : ℕ) → k < n → f k ≡ 0) → sum_below f n ≡ 0
-sum_zero f zero h = sum_none f
-sum_zero f (suc n) h = let e = sum_zero f n (λ k l. h k (omega arith)) in let x = h n (omega arith) in let a = sum_more f n in omega arith
 
 pub sum_add : (f g : ℕ → ℕ) (n : ℕ) → sum_below (λ k. f k + g k) n ≡ sum_below f n + sum_below g n
 sum_add f g zero = let a = sum_none f in let b = sum_none g in let c = sum_none (λ k. f k + g k) in omega arith
@@ -55,7 +36,7 @@ here d e r k = cond (is_of r k e) (cond (since d e) 1 0) 0
 there : (d : ℕ) (es : List Row) → ℕ → ℕ → ℕ
 there d es r k = cond (nat_le d k) (one (held_in es r k)) 0
 
-none_held : (r d : ℕ) (es : List Row) → all_by (λ x. not (is_of r d x)) es ≡ true → held_in es r d ≡ None
+none_held : (r d : ℕ) (es : List Row) → list_all (λ x. not (is_of r d x)) es ≡ true → held_in es r d ≡ None
 none_held r d [] h = refl
 none_held r d (e ∷ es) h =
     let p = and_parts (not (is_of r d e)) _ h in
@@ -97,12 +78,12 @@ one_row d e w n a b =
     (λ k l q. cond-false (is_of e.resource k e) v 0 (and_right _ _ (ne_eqb _ _ (λ p. q (sym p)))))
     ∙ cond-true (is_of e.resource e.day e) v 0 (and_from _ _ (eq-eqb e.resource e.resource refl) (eq-eqb e.day e.day refl))
 
-grid : (d w f n : ℕ) (rs : List Row) → 36524 < n → apart rs ≡ true → all_by (fine w f) rs ≡ true → sum_below (λ r. sum_below (λ k. there d rs r k) n) w ≡ length (filter (since d) rs)
+grid : (d w f n : ℕ) (rs : List Row) → 36524 < n → apart rs ≡ true → list_all (fine w f) rs ≡ true → sum_below (λ r. sum_below (λ k. there d rs r k) n) w ≡ length (filter (since d) rs)
 unfolding there
 grid d w f n [] hn a g = sum_zero _ w (λ r l. sum_zero _ n (λ k m. both (nat_le d k)))
 grid d w f n (e ∷ es) hn a g =
-    let p = and_parts (all_by (λ x. not (is_of e.resource e.day x)) es) (apart es) a in
-    let q = and_parts (fine w f e) (all_by (fine w f) es) g in
+    let p = and_parts (list_all (λ x. not (is_of e.resource e.day x)) es) (apart es) a in
+    let q = and_parts (fine w f e) (list_all (fine w f) es) g in
     let F = fine_parts w f e q.0 in
     let t = F.to in
     let no = none_held e.resource e.day es p.0 in
@@ -118,7 +99,7 @@ grid d w f n (e ∷ es) hn a g =
     last true = omega arith
     last false = omega arith
 
-pub counted : (m : StoreModel) (rs : List Row) (f d : ℕ) → m.look ≡ held_in rs → apart rs ≡ true → all_by (fine m.width f) rs ≡ true → held_from m d ≡ length (filter (since d) rs)
+pub counted : (m : StoreModel) (rs : List Row) (f d : ℕ) → m.look ≡ held_in rs → apart rs ≡ true → list_all (fine m.width f) rs ≡ true → held_from m d ≡ length (filter (since d) rs)
 unfolding held_from there
 counted m rs f d e a g =
     ap (λ (look : ℕ → ℕ → Option Curve). sum_below (λ r. sum_below (λ k. cond (nat_le d k) (one (look r k)) 0) 36525) m.width) e

@@ -20,7 +20,7 @@ one_at_most : (o : Option Curve) → one o ≤ 1
 one_at_most None = omega arith
 one_at_most (Some c) = omega arith
 
-held_at_most : (first : ℕ) (look : ℕ → Option Curve) (k : ℕ) → held_at first look k ≤ 1
+pub held_at_most : (first : ℕ) (look : ℕ → Option Curve) (k : ℕ) → held_at first look k ≤ 1
 held_at_most first look k =
     let o = one_at_most (look k) in
     elim (cases_Bool (nat_le first k)) [

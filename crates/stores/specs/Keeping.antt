@@ -1,5 +1,5 @@
 -- A keeper's put: the store below, cut at the keeper's new floor, takes the curve and means what the keeper should.
-use Rattle.std.specs.Prelude.{◌≡◌, ℕ, ◌<◌, ◌≤◌, false, cond, is_some, Ok, Option, Result, nat_le, nat_lt, refl}
+use Rattle.std.specs.Prelude.{◌≡◌, ℕ, ◌<◌, ◌≤◌, cond, Ok, Option, Result, nat_le, nat_lt, refl}
 use Rattle.std.proofs.Common.{sym, ◌∙◌, ap, inl, inr, arith}
 use Rattle.std.proofs.lemmas.Bool.{cases_lt, le-ltb, lt-leb, cond-false}
 use Rattle.metering.specs.declared.curve.Curve.{Curve}
@@ -10,7 +10,7 @@ use Rattle.stores.specs.Counts.{sum_same}
 use Rattle.stores.specs.Days.{held_at}
 use Rattle.stores.specs.Holding.{same_model}
 use Rattle.stores.specs.Turning.{cut_above, cut_cut, cut_same, cut_gained}
-use Rattle.stores.specs.Verdicts.{put_granted}
+use Rattle.stores.specs.Verdicts.{Admitted, put_granted, after_dropped}
 
 -- the span does not matter to what is held
 pub kept_held : (s : ℕ) (m : StoreModel) (d : ℕ) → held_from (kept s m) d ≡ held_from m d
@@ -42,14 +42,18 @@ raised_held m f = sum_same _ _ m.width (λ r _. sum_same (held_at f (cut_under f
   | inr l ↦ ap (λ (o : Option Curve). cond (nat_le f k) (one o) 0) (cut_above f m.look r k l)
 ]))
 
+pub kept_admitted : (s : ℕ) (m : StoreModel) (r d : ℕ) → Admitted m r d → Admitted (kept s m) r d
+kept_admitted s m r d t = record { last = t.last; resource = t.resource; above = t.above; free = t.free }
+
 pub record Granted (s : ℕ) (m : StoreModel) (r d : ℕ) (c : Curve) (f : ℕ) : Type 0 where
   pub below : put_answer (raised_to m f) r d ≡ Ok tt
   pub above : put_answer (kept s m) r d ≡ Ok tt
   pub after : kept s (put_into (raised_to m f) r d c) ≡ put_into (kept s m) r d c
 
-pub granted : (s : ℕ) (m : StoreModel) (r d : ℕ) (c : Curve) (f : ℕ) → 1 ≤ s → Bounded m → d ≤ 36524 → r < m.width → m.floor ≤ d → is_some (m.look r d) ≡ false
-    → f ≡ new_floor (kept s m) d → held_from m f < m.capacity → Granted s m r d c f
-granted s m r d c f hs b hd hr hf hn e room =
+pub granted : (s : ℕ) (m : StoreModel) (r d : ℕ) (c : Curve) (f : ℕ) → 1 ≤ s → Bounded m → Admitted m r d → f ≡ new_floor (kept s m) d → held_from m f < m.capacity → Granted s m r d c f
+granted s m r d c f hs b t e room =
+    let hd = t.last in
+    let hf = t.above in
     let q = b.span_from in
     let n : new_floor (raised_to m f) d ≡ f = omega arith in
     let fd : f ≤ d = omega arith in
@@ -57,8 +61,8 @@ granted s m r d c f hs b hd hr hf hn e room =
     let y : held_from (raised_to m f) (new_floor (raised_to m f) d) ≡ held_from (raised_to m f) f = ap (held_from (raised_to m f)) n in
     let z : held_from (kept s m) (new_floor (kept s m) d) ≡ held_from m f = kept_held s m (new_floor (kept s m) d) ∙ ap (held_from m) (sym e) in
     record {
-      below = put_granted (raised_to m f) r d hd hr (omega arith) (ap is_some (cut_above f m.look r d fd) ∙ hn) (omega arith);
-      above = put_granted (kept s m) r d hd hr hf hn (omega arith);
+      below = put_granted (raised_to m f) r d (record { last = hd; resource = t.resource; above = omega arith; free = cut_above f m.look r d fd ∙ t.free }) (omega arith);
+      above = put_granted (kept s m) r d (kept_admitted s m r d t) (omega arith);
       after = same_model (kept s (put_into (raised_to m f) r d c)) (put_into (kept s m) r d c) refl refl refl (n ∙ e)
           (λ r' k. ap (λ g. cut_under g (gained r d c (cut_under f m.look)) r' k) n
           ∙ (cut_same f (gained r d c (cut_under f m.look)) (cut_under f (gained r d c m.look)) r' k (cut_gained f r d c m.look r' k fd)
@@ -69,7 +73,7 @@ granted s m r d c f hs b hd hr hf hn e room =
     cut_twice f look r k = cut_cut f f look r k (omega arith)
 
 pub drop_granted : (m : StoreModel) (f : ℕ) → f ≤ 36524 → after_drop m f ≡ raised_to m f
-drop_granted m f h = ap (λ (a : Result (Unit {0}) StoreFault). unless a m (raised_to m f)) (cond-false (nat_lt 36524 f) _ _ (le-ltb 36524 f h))
+drop_granted m f h = after_dropped m f (cond-false (nat_lt 36524 f) _ _ (le-ltb 36524 f h))
 
 -- the calls below, in order
 pub kept_put : (s : ℕ) (m n o : StoreModel) (r d : ℕ) (c : Curve) (f : ℕ) (a : Result (Unit {0}) StoreFault) → Granted s m r d c f → f ≤ 36524

@@ -1,31 +1,31 @@
 -- What rows hold after one is put and after some are dropped, and what stays true of them.
-use Rattle.std.specs.Prelude.{◌≡◌, ℕ, zero, suc, ◌<◌, ◌≤◌, max, Bool, true, false, cond, not, ◌&&◌, List, [], ◌∷◌, ◌++◌, length, is_some, Some, None, filter, Option, ◌==◌, nat_lt, slice_index_or, refl}
+use Rattle.std.specs.Prelude.{◌≡◌, ℕ, ◌<◌, ◌≤◌, max, Bool, true, false, cond, not, ◌&&◌, List, [], ◌∷◌, ◌++◌, length, is_some, Some, None, filter, Option, ◌==◌, nat_lt, slice_index_or, refl}
 use Rattle.std.proofs.Common.{sym, ap, subst, ◌∙◌, inl, inr, arith}
+use Rattle.std.proofs.lemmas.List.{get_or_default}
+use Rattle.std.proofs.lemmas.List.Sums.{AllPass-from_list_all, list_all-from_AllPass}
+use Rattle.std.proofs.lemmas.List.Folds.{list_all-append}
 use Rattle.std.proofs.lemmas.Bool.{and_parts, and_from, and_right, cases_Bool, eq-eqb, ne_eqb, eqb-true, eqb-false, ltb-true, lt-ltb, le-ltb, le-leb, leb-true, leb-false, cond-true, cond-false, not_from_false}
 use Rattle.metering.specs.declared.curve.Curve.{Curve}
 use Rattle.metering.specs.Curves.{curve_of}
+use Rattle.std.specs.List.{list_all}
 use Rattle.stores.specs.Model.{cut_under, gained}
-use Rattle.stores.specs.Rows.{Row, is_of, held_in, since, all_by, apart, fine}
+use Rattle.stores.specs.Rows.{Row, is_of, held_in, since, apart, fine}
 use Rattle.stores.specs.Upto.{held_after_none}
 use Rattle.stores.specs.Reread.{Fine, fine_parts}
 
-pub all_by_push : {X : Type 0} (p : X → Bool) (xs : List X) (x : X) → all_by p xs ≡ true → p x ≡ true → all_by p (xs ++ (x ∷ [])) ≡ true
-all_by_push p [] x a t = and_from (p x) true t refl
-all_by_push p (y ∷ xs) x a t = let b = and_parts (p y) (all_by p xs) a in and_from _ _ b.0 (all_by_push p xs x b.1 t)
+pub all_by_push : {X : Type 0} (p : X → Bool) (xs : List X) (x : X) → list_all p xs ≡ true → p x ≡ true → list_all p (xs ++ (x ∷ [])) ≡ true
+all_by_push p xs x a t = list_all-append p xs (x ∷ []) ∙ and_from _ _ a (and_from _ true t refl)
 
-pub all_by_get_or : {X : Type 0} (p : X → Bool) (xs : List X) (i : ℕ) (d : X) → i < length xs → all_by p xs ≡ true → p (slice_index_or xs i d) ≡ true
-all_by_get_or p [] i d h a = absurd (omega arith)
-all_by_get_or p (x ∷ xs) zero d h a = (and_parts (p x) (all_by p xs) a).0
-all_by_get_or p (x ∷ xs) (suc i) d h a = all_by_get_or p xs i d (omega arith) (and_parts (p x) (all_by p xs) a).1
+pub all_by_get_or : {X : Type 0} (p : X → Bool) (xs : List X) (i : ℕ) (d : X) → i < length xs → list_all p xs ≡ true → p (slice_index_or xs i d) ≡ true
+all_by_get_or p xs i d h a = AllPass-from_list_all p xs a i d h
 
-pub all_by_from : {X : Type 0} (p : X → Bool) (xs : List X) (d : X) → ((i : ℕ) → i < length xs → p (slice_index_or xs i d) ≡ true) → all_by p xs ≡ true
-all_by_from p [] d h = refl
-all_by_from p (x ∷ xs) d h = and_from _ _ (h 0 (omega arith)) (all_by_from p xs d (λ i l. h (suc i) (omega arith)))
+pub all_by_from : {X : Type 0} (p : X → Bool) (xs : List X) (d : X) → ((i : ℕ) → i < length xs → p (slice_index_or xs i d) ≡ true) → list_all p xs ≡ true
+all_by_from p xs d h = list_all-from_AllPass p xs (λ i e l. ap p (get_or_default xs i e d l) ∙ h i l)
 
-all_by_kept : {X : Type 0} (p p' q : X → Bool) → ((x : X) → p x ≡ true → q x ≡ true → p' x ≡ true) → (xs : List X) → all_by p xs ≡ true → all_by p' (filter q xs) ≡ true
+all_by_kept : {X : Type 0} (p p' q : X → Bool) → ((x : X) → p x ≡ true → q x ≡ true → p' x ≡ true) → (xs : List X) → list_all p xs ≡ true → list_all p' (filter q xs) ≡ true
 all_by_kept p p' q h [] a = refl
 all_by_kept p p' q h (x ∷ xs) a =
-    let b = and_parts (p x) (all_by p xs) a in
+    let b = and_parts (p x) (list_all p xs) a in
     let r = all_by_kept p p' q h xs b.1 in
     elim (cases_Bool (q x)) [ inl t ↦ simp t (and_from _ _ (h x b.0 t) r) | inr t ↦ simp t r ]
 
@@ -35,7 +35,7 @@ pub apart_kept : (q : Row → Bool) (xs : List Row) → apart xs ≡ true → ap
 apart_kept q [] a = refl
 apart_kept q (x ∷ xs) a =
     let p : Row → Bool = λ y. not (is_of x.resource x.day y) in
-    let b = and_parts (all_by p xs) (apart xs) a in
+    let b = and_parts (list_all p xs) (apart xs) a in
     let r = apart_kept q xs b.1 in
     elim (cases_Bool (q x)) [ inl t ↦ simp t (and_from _ _ (all_by_kept p p q (λ y s _. s) xs b.0) r) | inr t ↦ simp t r ]
 
@@ -56,7 +56,7 @@ pub apart_push : (xs : List Row) (x : Row) → apart xs ≡ true → held_in xs 
 apart_push [] x a f = refl
 apart_push (y ∷ xs) x a f =
     let p : Row → Bool = λ z. not (is_of y.resource y.day z) in
-    let b = and_parts (all_by p xs) (apart xs) a in
+    let b = and_parts (list_all p xs) (apart xs) a in
     let n = none_split x.resource x.day y xs f in
     and_from _ _ (all_by_push p xs x b.0 (not_from_false _ (sym (is_of_swap y x) ∙ n.0))) (apart_push xs x b.1 n.1)
 
@@ -66,7 +66,7 @@ pub fine_from : (width floor : ℕ) (e : Row) → Fine width floor e → fine wi
 fine_from width floor e f =
     and_from _ _ (lt-ltb _ _ f.below) (and_from _ _ (le-leb _ _ f.from) (and_from _ _ (le-leb _ _ f.to) (and_from _ _ (eq-eqb _ _ f.full) f.limits)))
 
-pub fine_raised : (width floor day : ℕ) (xs : List Row) → all_by (fine width floor) xs ≡ true → all_by (fine width (max floor day)) (filter (since day) xs) ≡ true
+pub fine_raised : (width floor day : ℕ) (xs : List Row) → list_all (fine width floor) xs ≡ true → list_all (fine width (max floor day)) (filter (since day) xs) ≡ true
 fine_raised width floor day xs h =
     all_by_kept (fine width floor) (fine width (max floor day)) (since day)
     (λ e s t. let f = fine_parts width floor e s in
@@ -76,19 +76,19 @@ fine_raised width floor day xs h =
     xs h
 
 -- all rows are from the floor on
-pub kept_all : (width floor day : ℕ) (xs : List Row) → day ≤ floor → all_by (fine width floor) xs ≡ true → filter (since day) xs ≡ xs
+pub kept_all : (width floor day : ℕ) (xs : List Row) → day ≤ floor → list_all (fine width floor) xs ≡ true → filter (since day) xs ≡ xs
 kept_all width floor day [] le h = refl
 kept_all width floor day (x ∷ xs) le h =
-    let b = and_parts (fine width floor x) (all_by (fine width floor) xs) h in
+    let b = and_parts (fine width floor x) (list_all (fine width floor) xs) h in
     let f = (fine_parts width floor x b.0).from in
     cond-true (since day x) _ _ (le-leb day x.day (omega arith)) ∙ ap (λ ys. x ∷ ys) (kept_all width floor day xs le b.1)
 
 -- what is held
 
-pub held_within : (width floor : ℕ) (xs : List Row) (r d : ℕ) → all_by (fine width floor) xs ≡ true → is_some (held_in xs r d) ≡ true → (r < width) × (floor ≤ d) × (d ≤ 36524)
+pub held_within : (width floor : ℕ) (xs : List Row) (r d : ℕ) → list_all (fine width floor) xs ≡ true → is_some (held_in xs r d) ≡ true → (r < width) × (floor ≤ d) × (d ≤ 36524)
 held_within width floor [] r d a s = let z : ◌≡◌ {A = ℕ} 0 1 = cc in absurd (omega arith)
 held_within width floor (x ∷ xs) r d a s =
-    let b = and_parts (fine width floor x) (all_by (fine width floor) xs) a in
+    let b = and_parts (fine width floor x) (list_all (fine width floor) xs) a in
     elim (cases_Bool (is_of r d x)) [
       | inl t ↦ (let f = fine_parts width floor x b.0 in
           let p = and_parts (x.resource == r) (x.day == d) t in
@@ -101,10 +101,10 @@ held_within width floor (x ∷ xs) r d a s =
       | inr t ↦ held_within width floor xs r d b.1 (sym (ap is_some (cond-false (is_of r d x) (Some (curve_of x.readings)) (held_in xs r d) t)) ∙ s)
     ]
 
-none_under : (width floor : ℕ) (xs : List Row) (r d : ℕ) → all_by (fine width floor) xs ≡ true → d < floor → held_in xs r d ≡ None
+none_under : (width floor : ℕ) (xs : List Row) (r d : ℕ) → list_all (fine width floor) xs ≡ true → d < floor → held_in xs r d ≡ None
 none_under width floor [] r d a l = refl
 none_under width floor (x ∷ xs) r d a l =
-    let b = and_parts (fine width floor x) (all_by (fine width floor) xs) a in
+    let b = and_parts (fine width floor x) (list_all (fine width floor) xs) a in
     let f = (fine_parts width floor x b.0).from in
     cond-false (is_of r d x) _ _ (and_right _ _ (ne_eqb x.day d (λ e. omega arith))) ∙ none_under width floor xs r d b.1 l
 
@@ -112,7 +112,7 @@ held_push_other : (xs : List Row) (x : Row) (r d : ℕ) → is_of r d x ≡ fals
 held_push_other [] x r d h = cond-false (is_of r d x) _ _ h
 held_push_other (y ∷ xs) x r d h = ap (λ o. cond (is_of r d y) (Some (curve_of y.readings)) o) (held_push_other xs x r d h)
 
-pub look_put : (width floor : ℕ) (rs : List Row) (e : Row) (c : Curve) → all_by (fine width floor) rs ≡ true → fine width floor e ≡ true → held_in rs e.resource e.day ≡ None → curve_of e.readings ≡ c
+pub look_put : (width floor : ℕ) (rs : List Row) (e : Row) (c : Curve) → list_all (fine width floor) rs ≡ true → fine width floor e ≡ true → held_in rs e.resource e.day ≡ None → curve_of e.readings ≡ c
     → (r d : ℕ) → held_in (rs ++ (e ∷ [])) r d ≡ cut_under floor (gained e.resource e.day c (held_in rs)) r d
 look_put width floor rs e c a fe free ec r d =
     elim (cases_Bool (nat_lt d floor)) [

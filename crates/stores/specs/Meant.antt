@@ -7,9 +7,10 @@ use Rattle.metering.specs.declared.reading.Reading.{Reading}
 use Rattle.metering.specs.declared.reading.Reading.TheVariants.{Measured, Estimated}
 use Rattle.metering.specs.Readings.{within, reading_in}
 use Rattle.metering.specs.Curves.{curve_of, limited, curve_of_readings}
+use Rattle.std.specs.List.{list_all}
 use Rattle.stores.specs.declared.journal.Journal.{Journal}
 use Rattle.stores.specs.Model.{Bounded, held_from, new_floor, cut_under, gained, put_into, raised_to, reading_held}
-use Rattle.stores.specs.Rows.{Row, row_at, rows_in, reading_from, word_at, held_in, since, all_by, fine}
+use Rattle.stores.specs.Rows.{Row, row_at, rows_in, reading_from, word_at, held_in, since, fine}
 use Rattle.stores.specs.Journals.{memory_of, row_of, rows_of, meaning, model_of}
 use Rattle.stores.specs.Making.{fresh}
 use Rattle.stores.specs.Looked.{look_put, look_drop, held_within, all_by_get_or, all_by_from, fine_from}
@@ -33,7 +34,7 @@ fresh_means bs width capacity span e =
     let q = no_rows bs in
     λ i. record { width = width; capacity = capacity; span = e i; floor = 0; look = held_in (q i) }
 
-pub put_means : (width capacity floor : ℕ) (rs : List Row) (e : Row) (c : Curve) → 0 < capacity → e.day ≤ 36524 → all_by (fine width floor) rs ≡ true → fine width floor e ≡ true
+pub put_means : (width capacity floor : ℕ) (rs : List Row) (e : Row) (c : Curve) → 0 < capacity → e.day ≤ 36524 → list_all (fine width floor) rs ≡ true → fine width floor e ≡ true
     → held_in rs e.resource e.day ≡ None → curve_of e.readings ≡ c → meaning width capacity floor (rs ++ (e ∷ [])) ≡ put_into (meaning width capacity floor rs) e.resource e.day c
 put_means width capacity floor rs e c h le g fe free ec =
     let f = floor_stays capacity floor e.day h le in

@@ -1,14 +1,29 @@
--- Readings placed one after another into a blank curve make the curve of their list.
-use Rattle.std.specs.Prelude.{◌≡◌, ℕ, zero, suc, ◌<◌, cond, ◌≢◌, List, [], ◌∷◌, length, pos, nat_lt, slice_set, refl}
-use Rattle.std.proofs.Common.{sym, ap, ◌∙◌, inl, inr, arith, get_or-set_same, get_or-set_other}
+-- A curve whose readings are those of a list, within the limits, is the curve of the list.
+use Rattle.std.specs.Prelude.{◌≡◌, ℕ, zero, suc, ◌<◌, List, [], ◌∷◌, length, pos, refl, cond, ◌≢◌, nat_lt, slice_set}
+use Rattle.std.proofs.Common.{sym, ◌∙◌, arith, ap, inl, inr, get_or-set_same, get_or-set_other}
 use Rattle.std.proofs.lemmas.List.{ext_get_or}
-use Rattle.std.proofs.lemmas.Bool.{cond-true, cond-false, cases_Bool, lt-ltb}
 use Rattle.metering.specs.declared.reading.Reading.{Reading}
 use Rattle.metering.specs.declared.reading.Reading.TheVariants.{Measured, Estimated}
 use Rattle.metering.specs.declared.curve.Curve.{Curve}
-use Rattle.metering.specs.Readings.{within, placed, reading_in}
+use Rattle.metering.specs.Readings.{reading_in, within, placed}
 use Rattle.metering.specs.Curves.{limited, fitted, length_fitted, curve_of, curve_of_readings}
 use Rattle.metering.proofs.Same.{same_curve}
+use Rattle.std.proofs.lemmas.Bool.{cond-true, cond-false, cases_Bool, lt-ltb}
+
+pub fitted_at : (n : ℕ) (rs : List Reading) (k : ℕ) → k < n → k < length rs → reading_in (fitted n rs) k ≡ limited (reading_in rs k)
+fitted_at zero rs k h l = absurd (omega arith)
+fitted_at (suc n) [] k h l = absurd (omega arith)
+fitted_at (suc n) (r ∷ rs) zero h l = refl
+fitted_at (suc n) (r ∷ rs) (suc k) h l = fitted_at n rs k (omega arith) (omega arith)
+
+pub curve_is : (c : Curve) (rs : List Reading) → length rs ≡ 96 → ((k : ℕ) → k < 96 → reading_in c.readings k ≡ limited (reading_in rs k)) → c ≡ curve_of rs
+curve_is c rs l h =
+    let lc : length c.readings ≡ 96 = c.whole in
+    let lf = length_fitted 96 rs in
+    same_curve c (curve_of rs)
+    (ext_get_or (Measured (pos 0)) c.readings (fitted 96 rs) (lc ∙ sym lf)
+    (λ k p. let b : k < 96 = omega arith in h k b ∙ sym (fitted_at 96 rs k b (omega arith)))
+    ∙ sym (curve_of_readings rs))
 
 pub placed_there : (rs : List Reading) (q : ℕ) (r : Reading) → length rs ≡ 96 → q < 96 → reading_in rs q ≡ Estimated → reading_in (placed rs q r) q ≡ limited r
 placed_there rs q r l h e =
@@ -28,18 +43,3 @@ placed_elsewhere rs q k r n =
       ]
       | inr t ↦ ap (λ x. reading_in x k) (cond-false (nat_lt q 96) _ _ t)
     ]
-
-pub fitted_at : (n : ℕ) (rs : List Reading) (k : ℕ) → k < n → k < length rs → reading_in (fitted n rs) k ≡ limited (reading_in rs k)
-fitted_at zero rs k h l = absurd (omega arith)
-fitted_at (suc n) [] k h l = absurd (omega arith)
-fitted_at (suc n) (r ∷ rs) zero h l = refl
-fitted_at (suc n) (r ∷ rs) (suc k) h l = fitted_at n rs k (omega arith) (omega arith)
-
-pub curve_is : (c : Curve) (rs : List Reading) → length rs ≡ 96 → ((k : ℕ) → k < 96 → reading_in c.readings k ≡ limited (reading_in rs k)) → c ≡ curve_of rs
-curve_is c rs l h =
-    let lc : length c.readings ≡ 96 = c.whole in
-    let lf = length_fitted 96 rs in
-    same_curve c (curve_of rs)
-    (ext_get_or (Measured (pos 0)) c.readings (fitted 96 rs) (lc ∙ sym lf)
-    (λ k p. let b : k < 96 = omega arith in h k b ∙ sym (fitted_at 96 rs k b (omega arith)))
-    ∙ sym (curve_of_readings rs))

@@ -1,16 +1,18 @@
 -- What is written is read back: rows that a journal holds come out of their bytes as they went in.
 use Rattle.std.specs.Prelude.{◌≡◌, ℕ, zero, suc, ◌+◌, ◌-◌, ◌*◌, ◌/◌, ◌%◌, ◌<◌, ◌≤◌, true, List, [], ◌∷◌, ◌++◌, length, get_or, pos, negsuc, FitsSigned, ◌==◌, nat_le, nat_lt, slice_index, slice_index_or, refl}
-use Rattle.std.proofs.Common.{ap, ◌∙◌, arith, length-append, of_z, to_z}
+use Rattle.std.proofs.Common.{ap, ◌∙◌, arith, length-append}
 use Rattle.std.proofs.Math.Nat.{div-div-eq-div-mul}
 use Rattle.std.specs.Int.{w32}
-use Rattle.std.specs.List.{flat_map}
+use Rattle.std.specs.List.{flat_map, list_all}
 use Rattle.std.proofs.lemmas.List.{append_assoc, get_or-append_right}
-use Rattle.std.proofs.lemmas.Int.{to_z-of_z, to_z_pos}
-use Rattle.std.proofs.lemmas.Bool.{and_parts, leb-true, ltb-true, eqb-true, ne_eqb, cond-false}
+use Rattle.std.proofs.lemmas.Int.{to_z-of_z}
+use Rattle.std.proofs.lemmas.Bool.{and_parts, leb-true, ltb-true, eqb-true}
 use Rattle.metering.specs.declared.reading.Reading.{Reading}
 use Rattle.metering.specs.declared.reading.Reading.TheVariants.{Measured, Estimated}
 use Rattle.metering.specs.Readings.{within}
-use Rattle.stores.specs.Rows.{Row, upto, four, bits_of, reading_bytes, row_bytes, written, word_at, reading_from, day_from, row_at, rows_in, all_by, fine}
+use Rattle.stores.specs.Words.{word_of, reading_from as word_reading, upto}
+use Rattle.stores.specs.Encoding.{reading_word}
+use Rattle.stores.specs.Rows.{Row, four, bits_of, reading_bytes, row_bytes, written, word_at, reading_from, day_from, row_at, rows_in, fine}
 use Rattle.stores.specs.Upto.{upto_same, upto_is}
 use Rattle.stores.specs.Closing.{length_row}
 
@@ -20,14 +22,14 @@ pub record Fine (width floor : ℕ) (e : Row) : Type 0 where
   pub from : floor ≤ e.day
   pub to : e.day ≤ 36524
   pub full : length e.readings ≡ 96
-  pub limits : all_by within e.readings ≡ true
+  pub limits : list_all within e.readings ≡ true
 
 pub fine_parts : (width floor : ℕ) (e : Row) → fine width floor e ≡ true → Fine width floor e
 fine_parts width floor e h =
     let a = and_parts (nat_lt e.resource width) _ h in
     let b = and_parts (nat_le floor e.day) _ a.1 in
     let c = and_parts (nat_le e.day 36524) _ b.1 in
-    let d = and_parts (length e.readings == 96) (all_by within e.readings) c.1 in
+    let d = and_parts (length e.readings == 96) (list_all within e.readings) c.1 in
     record { below = ltb-true _ _ a.0; from = leb-true _ _ b.0; to = leb-true _ _ c.0; full = eqb-true _ _ d.0; limits = d.1 }
 
 word_fits_lem : (r : Reading) → within r ≡ true → bits_of r < 4294967296
@@ -35,16 +37,13 @@ word_fits_lem (Measured (pos n)) h = let l = leb-true n 1000000 h in omega arith
 word_fits_lem (Measured (negsuc n)) h = let l = ltb-true n 1000000 h in omega arith
 word_fits_lem Estimated h = omega arith
 
+fits_word : (r : Reading) → within r ≡ true → FitsSigned w32 (word_of r)
+fits_word (Measured (pos n)) h = let l = leb-true n 1000000 h in record { sfits = omega arith }
+fits_word (Measured (negsuc n)) h = let l = ltb-true n 1000000 h in record { sfits = omega arith }
+fits_word Estimated h = record { sfits = omega arith }
+
 word_back : (r : Reading) → within r ≡ true → reading_from (bits_of r) ≡ r
-word_back (Measured (pos n)) h =
-    let l = leb-true n 1000000 h in
-    cond-false (n == 2147483648) Estimated (Measured (to_z w32 n)) (ne_eqb n 2147483648 (λ e. omega arith)) ∙ ap Measured (to_z_pos w32 n (omega arith))
-word_back (Measured (negsuc n)) h =
-    let l = ltb-true n 1000000 h in
-    let s : FitsSigned w32 (negsuc n) = record { sfits = omega arith } in
-    let b = of_z w32 (negsuc n) in
-    cond-false (b == 2147483648) Estimated (Measured (to_z w32 b)) (ne_eqb b 2147483648 (λ e. omega arith)) ∙ ap Measured (to_z-of_z w32 (negsuc n) s)
-word_back Estimated h = refl
+word_back r h = ap word_reading (to_z-of_z w32 (word_of r) (fits_word r h)) ∙ reading_word r h
 
 bytes_back : (n a b c : ℕ) → n < 4294967296 → n / 256 ≡ a → a / 256 ≡ b → b / 256 ≡ c → c % 256 * 16777216 + b % 256 * 65536 + a % 256 * 256 + n % 256 ≡ n
 bytes_back n a b c h ea eb ec =
@@ -85,13 +84,13 @@ row_shift xs ys n a b l e =
     (λ q h. ap reading_from (word_shift xs ys n (a + 3 + 4 * q) (b + 3 + 4 * q) l (omega arith))) in
     cc
 
-readings_back : (rs : List Reading) (ys : List ℕ) (k : ℕ) (d : Reading) → k < length rs → all_by within rs ≡ true → reading_from (word_at (flat_map reading_bytes rs ++ ys) (4 * k)) ≡ slice_index_or rs k d
+readings_back : (rs : List Reading) (ys : List ℕ) (k : ℕ) (d : Reading) → k < length rs → list_all within rs ≡ true → reading_from (word_at (flat_map reading_bytes rs ++ ys) (4 * k)) ≡ slice_index_or rs k d
 readings_back [] ys k d h w = absurd (omega arith)
 readings_back (r ∷ rs) ys zero d h w =
-    let p = and_parts (within r) (all_by within rs) w in
+    let p = and_parts (within r) (list_all within rs) w in
     ap reading_from (four_back (bits_of r) (flat_map reading_bytes rs ++ ys) (word_fits_lem r p.0)) ∙ word_back r p.0
 readings_back (r ∷ rs) ys (suc k) d h w =
-    let p = and_parts (within r) (all_by within rs) w in
+    let p = and_parts (within r) (list_all within rs) w in
     ap reading_from (word_shift (reading_bytes r) (flat_map reading_bytes rs ++ ys) 4 (4 * k) (4 * suc k) refl (omega arith)) ∙ readings_back rs ys k d (omega arith) p.1
 
 row_back : (width floor : ℕ) (e : Row) (ys : List ℕ) → Fine width floor e → row_at (row_bytes e ++ ys) 0 ≡ e
@@ -104,28 +103,28 @@ row_back width floor e ys f =
     ∙ readings_back e.readings ys k Estimated (let q = f.full in omega arith) f.limits) in
     λ i. record { resource = e.resource; day = d i; readings = w i }
 
-rows_back : (width floor : ℕ) (rs : List Row) (ys : List ℕ) (k : ℕ) (d : Row) → all_by (fine width floor) rs ≡ true → k < length rs → row_at (written rs ++ ys) (387 * k) ≡ slice_index_or rs k d
+rows_back : (width floor : ℕ) (rs : List Row) (ys : List ℕ) (k : ℕ) (d : Row) → list_all (fine width floor) rs ≡ true → k < length rs → row_at (written rs ++ ys) (387 * k) ≡ slice_index_or rs k d
 rows_back width floor [] ys k d a h = absurd (omega arith)
 rows_back width floor (e ∷ es) ys zero d a h =
-    let p = and_parts (fine width floor e) (all_by (fine width floor) es) a in
+    let p = and_parts (fine width floor e) (list_all (fine width floor) es) a in
     ap (λ xs. row_at xs 0) (append_assoc (row_bytes e) (written es) ys) ∙ row_back width floor e (written es ++ ys) (fine_parts width floor e p.0)
 rows_back width floor (e ∷ es) ys (suc k) d a h =
-    let p = and_parts (fine width floor e) (all_by (fine width floor) es) a in
+    let p = and_parts (fine width floor e) (list_all (fine width floor) es) a in
     let l = length_row e (fine_parts width floor e p.0).full in
     ap (λ xs. row_at xs (387 * suc k)) (append_assoc (row_bytes e) (written es) ys)
     ∙ row_shift (row_bytes e) (written es ++ ys) 387 (387 * k) (387 * suc k) l (omega arith)
     ∙ rows_back width floor es ys k d p.1 (omega arith)
 
 -- rows written at the start of a memory are its rows
-pub reread : (width floor : ℕ) (rs : List Row) (ys : List ℕ) (n : ℕ) → all_by (fine width floor) rs ≡ true → length rs ≡ n → rows_in (written rs ++ ys) n ≡ rs
+pub reread : (width floor : ℕ) (rs : List Row) (ys : List ℕ) (n : ℕ) → list_all (fine width floor) rs ≡ true → length rs ≡ n → rows_in (written rs ++ ys) n ≡ rs
 reread width floor rs ys n a e =
     upto_is (λ i. row_at (written rs ++ ys) (387 * i)) n rs (row_at [] 0) e (λ k h. rows_back width floor rs ys k (row_at [] 0) a (omega arith))
 
 -- rows that a journal holds take 387 bytes each
-pub length_fine : (width floor : ℕ) (rs : List Row) → all_by (fine width floor) rs ≡ true → length (written rs) ≡ 387 * length rs
+pub length_fine : (width floor : ℕ) (rs : List Row) → list_all (fine width floor) rs ≡ true → length (written rs) ≡ 387 * length rs
 length_fine width floor [] a = refl
 length_fine width floor (e ∷ es) a =
-    let p = and_parts (fine width floor e) (all_by (fine width floor) es) a in
+    let p = and_parts (fine width floor e) (list_all (fine width floor) es) a in
     let l = length_row e (fine_parts width floor e p.0).full in
     let r = length_fine width floor es p.1 in
     simp length-append (omega arith)

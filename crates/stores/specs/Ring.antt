@@ -32,10 +32,10 @@ ring_model rows span floor words = record {
 }
 
 abbrev pub words_of : Ring → List ℤ
-words_of s = vec_items s.words
+words_of s = vec_items s.grid.words
 
 abbrev pub model_of : Ring → StoreModel
-model_of s = ring_model s.rows s.span s.floor (words_of s)
+model_of s = ring_model s.grid.rows s.grid.span s.floor (words_of s)
 
 -- the words are those of the meaning: a held curve lies in the 97 words of its slot, as day + 1 and then its readings,
 -- and a slot into which no held day falls is all 0

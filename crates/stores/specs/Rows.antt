@@ -1,14 +1,14 @@
 -- A journal's rows: a resource, a day and the readings of a curve, as bytes and back.
-use Rattle.std.specs.Prelude.{◌≡◌, ℕ, zero, suc, ◌+◌, ◌-◌, ◌*◌, ◌/◌, ◌%◌, Bool, true, cond, not, ◌&&◌, List, [], ◌∷◌, ◌++◌, length, replicate, pos, negsuc, Some, None, Option, ◌==◌, nat_le, nat_lt, slice_index, refl}
+use Rattle.std.specs.Prelude.{◌≡◌, ℕ, ◌+◌, ◌-◌, ◌*◌, ◌/◌, ◌%◌, Bool, true, cond, not, ◌&&◌, List, [], ◌∷◌, ◌++◌, length, replicate, pos, negsuc, Some, None, Option, ◌==◌, nat_le, nat_lt, slice_index, refl}
 use Rattle.std.proofs.Common.{of_z, to_z}
 use Rattle.std.specs.Int.{w32}
-use Rattle.std.specs.List.{flat_map}
+use Rattle.std.specs.List.{flat_map, list_all}
 use Rattle.metering.specs.declared.reading.Reading.{Reading}
 use Rattle.metering.specs.declared.reading.Reading.TheVariants.{Measured, Estimated}
 use Rattle.metering.specs.declared.curve.Curve.{Curve}
 use Rattle.metering.specs.Readings.{within}
 use Rattle.metering.specs.Curves.{curve_of}
-use Rattle.stores.specs.Words.{word_of}
+use Rattle.stores.specs.Words.{word_of, reading_from as word_reading, upto}
 
 pub record Row : Type 0 where
   pub resource : ℕ
@@ -61,15 +61,10 @@ abbrev pub word_at : List ℕ → ℕ → ℕ
 word_at bs a = slice_index bs a * 16777216 + slice_index bs (a + 1) * 65536 + slice_index bs (a + 2) * 256 + slice_index bs (a + 3)
 
 abbrev pub reading_from : ℕ → Reading
-reading_from n = cond (n == 2147483648) Estimated (Measured (to_z w32 n))
+reading_from n = word_reading (to_z w32 n)
 
 abbrev pub day_from : List ℕ → ℕ → ℕ
 day_from bs a = slice_index bs (a + 1) * 256 + slice_index bs (a + 2)
-
--- f 0, f 1, up to f (n - 1)
-unfoldable pub upto : {X : Type 0} → (ℕ → X) → ℕ → List X
-upto f zero = []
-upto f (suc n) = upto f n ++ (f n ∷ [])
 
 -- the row of the 387 bytes from a on
 abbrev pub row_at : List ℕ → ℕ → Row
@@ -92,16 +87,12 @@ held_in (e ∷ es) r d = cond (is_of r d e) (Some (curve_of e.readings)) (held_i
 abbrev pub since : ℕ → Row → Bool
 since d e = nat_le d e.day
 
-abbrev pub all_by : {X : Type 0} → (X → Bool) → List X → Bool
-all_by p [] = true
-all_by p (x ∷ xs) = p x && all_by p xs
-
 -- no two rows of one resource and day
 abbrev pub apart : List Row → Bool
 apart [] = true
-apart (e ∷ es) = all_by (λ x. not (is_of e.resource e.day x)) es && apart es
+apart (e ∷ es) = list_all (λ x. not (is_of e.resource e.day x)) es && apart es
 
 -- a row that a journal of this width and floor holds
 abbrev pub fine : ℕ → ℕ → Row → Bool
 fine width floor e =
-    nat_lt e.resource width && (nat_le floor e.day && (nat_le e.day 36524 && (length e.readings == 96 && all_by within e.readings)))
+    nat_lt e.resource width && (nat_le floor e.day && (nat_le e.day 36524 && (length e.readings == 96 && list_all within e.readings)))

@@ -3,8 +3,9 @@ use Rattle.std.specs.Prelude.{◌≡◌, ℕ, zero, suc, ◌+◌, ◌-◌, ◌*�
 use Rattle.std.proofs.Common.{sym, ap, ◌∙◌, inl, inr, arith}
 use Rattle.std.proofs.lemmas.List.{append_assoc, take_at, drop_at, take-append-drop, drop-drop, drop-replicate, replicate-append-replicate, length_push}
 use Rattle.std.proofs.lemmas.Bool.{cases_lt, cond-true, cond-false, lt-ltb, le-ltb}
+use Rattle.std.specs.List.{list_all}
 use Rattle.stores.specs.Model.{held_from}
-use Rattle.stores.specs.Rows.{Row, row_bytes, written, layout, row_at, rows_in, held_in, since, all_by, apart, fine}
+use Rattle.stores.specs.Rows.{Row, row_bytes, written, layout, row_at, rows_in, held_in, since, apart, fine}
 use Rattle.stores.specs.Journals.{meaning, LaidOut, rewritten}
 use Rattle.stores.specs.Upto.{upto_none, length_upto}
 use Rattle.stores.specs.Closing.{written_push}
@@ -18,7 +19,7 @@ pub record Standing (bs : List ℕ) (width capacity floor n : ℕ) : Type 0 wher
   pub laid : take (387 * n) bs ≡ written (rows_in bs n)
   pub blank : 0 < capacity → drop (387 * n) bs ≡ replicate (length bs - 387 * n) 0
   pub single : apart (rows_in bs n) ≡ true
-  pub good : all_by (fine width floor) (rows_in bs n) ≡ true
+  pub good : list_all (fine width floor) (rows_in bs n) ≡ true
 
 pub length_rows : (bs : List ℕ) (n : ℕ) → length (rows_in bs n) ≡ n
 length_rows bs n = length_upto (λ i. row_at bs (387 * i)) n
@@ -35,7 +36,7 @@ fresh bs width capacity le b =
       laid = sym (ap written e);
       blank = λ h. (let z : length bs ≡ length bs - 0 = omega arith in b h ∙ ap (λ (m : ℕ). replicate m 0) z);
       single = ap apart e;
-      good = ap (all_by (fine width 0)) e;
+      good = ap (list_all (fine width 0)) e;
     }
 
 -- a memory that begins with the bytes of rows
@@ -44,7 +45,7 @@ record Begins (cs : List ℕ) (rs : List Row) (ds : List ℕ) (n : ℕ) : Type 0
   laid : take (387 * n) cs ≡ written (rows_in cs n)
   rest : drop (387 * n) cs ≡ ds
 
-begins : (cs : List ℕ) (rs : List Row) (ds : List ℕ) (n width floor : ℕ) → cs ≡ written rs ++ ds → all_by (fine width floor) rs ≡ true → length rs ≡ n → Begins cs rs ds n
+begins : (cs : List ℕ) (rs : List Row) (ds : List ℕ) (n width floor : ℕ) → cs ≡ written rs ++ ds → list_all (fine width floor) rs ≡ true → length rs ≡ n → Begins cs rs ds n
 begins cs rs ds n width floor e g l =
     let r : rows_in cs n ≡ rs = ap (λ xs. rows_in xs n) e ∙ reread width floor rs ds n g l in
     let w : length (written rs) ≡ 387 * n = length_fine width floor rs g ∙ ap (λ m. 387 * m) l in
@@ -83,7 +84,7 @@ put bs cs width capacity floor n e s lt fe free len q =
         laid = b.laid;
         blank = λ h. b.rest ∙ ap (λ m. replicate (m - 387 * (n + 1)) 0) (sym len);
         single = ap apart b.rows ∙ apart_push rs e s.single free;
-        good = ap (all_by (fine width floor)) b.rows ∙ good;
+        good = ap (list_all (fine width floor)) b.rows ∙ good;
       };
       rows = b.rows;
       memory = w ∙ ap (λ m. written (rs ++ (e ∷ [])) ++ replicate (length bs - 387 * m) 0) (sym ln);
@@ -119,7 +120,7 @@ dropped bs cs width capacity floor n k day s ek le len q =
         laid = b.laid;
         blank = λ h. b.rest ∙ tail h ∙ ap (λ m. replicate (m - 387 * k) 0) (sym len);
         single = ap apart b.rows ∙ apart_kept (since day) rs s.single;
-        good = ap (all_by (fine width (max floor day))) b.rows ∙ good;
+        good = ap (list_all (fine width (max floor day))) b.rows ∙ good;
       };
       rows = b.rows;
       memory = elim (cases_lt 0 capacity) [

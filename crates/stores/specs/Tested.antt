@@ -1,5 +1,5 @@
 -- A test of all numbers below one, and what it tells of each.
-use Rattle.std.specs.Prelude.{◌≡◌, ℕ, zero, suc, ◌*◌, ◌<◌, ◌≤◌, Bool, true, List, ℤ, refl}
+use Rattle.std.specs.Prelude.{◌≡◌, ℕ, zero, suc, ◌+◌, ◌*◌, ◌<◌, ◌≤◌, Bool, true, List, ℤ, refl}
 use Rattle.std.proofs.Common.{◌∙◌, ap, inl, inr, zero-mul, suc-mul, arith}
 use Rattle.std.proofs.lemmas.Bool.{cases_lt, and_parts, and_from}
 use Rattle.stores.specs.Slots.{HeadsFit, WordsFit, all_below, heads_fit, words_fit}
@@ -24,6 +24,11 @@ heads_each rows span lo hi ws h r s l m = each_below _ span s (each_below _ rows
 
 pub each_heads : (rows span lo hi : ℕ) (ws : List ℤ) → HeadsFit rows span lo hi ws → heads_fit rows span lo hi ws ≡ true
 each_heads rows span lo hi ws h = below_each _ rows (λ r l. below_each _ span (λ s m. h r s l m))
+
+-- the same of a ring whose numbers are equal
+pub each_heads_as : (rows span lo rows' span' lo' : ℕ) (ws : List ℤ) → rows' ≡ rows → span' ≡ span → lo' ≡ lo → HeadsFit rows span lo (lo + span) ws
+    → heads_fit rows' span' lo' (lo' + span') ws ≡ true
+each_heads_as rows span lo rows' span' lo' ws er es el h = (λ i. heads_fit (er i) (es i) (el i) (el i + es i) ws) ∙ each_heads rows span lo (lo + span) ws h
 
 pub words_each : (rows span : ℕ) (ws : List ℤ) → words_fit rows span ws ≡ true → WordsFit rows span ws
 words_each rows span ws h r s q l m k = each_below _ 96 q (each_below _ span s (each_below _ rows r h l) m) k

@@ -7,7 +7,7 @@ use Rattle.metering.specs.declared.curve.Curve.{Curve}
 use Rattle.metering.specs.Readings.{within, reading_in}
 use Rattle.stores.specs.Model.{cut_under, gained}
 use Rattle.stores.specs.Words.{reading_from, curve_from}
-use Rattle.stores.specs.Slots.{slot_at, head_at, word_at, is_day, is_zero, ring_look, head_fits, word_fits, HeadsFit, WordsFit, SlotWritten, SlotCleared, DayCleared, Means}
+use Rattle.stores.specs.Slots.{slot_at, head_at, word_at, is_day, is_zero, ring_look, head_fits, word_fits, HeadsFit, WordsFit, Around, SlotWritten, SlotCleared, DayCleared, Means}
 use Rattle.stores.specs.Places.{Apart, apart, stays, stays_head, stays_word, same_day}
 use Rattle.stores.specs.Encoding.{reading_word, curve_is, curve_same}
 
@@ -210,6 +210,34 @@ cleared_all rows span lo hi e to ws vs hs heads le w le' o m = record {
   ];
 }
 
+-- the words of all slots keep their limits where one slot changed and its words do
+slot_fits : (rows span r t : ℕ) (ws vs : List ℤ) → t < span → WordsFit rows span ws → Around ws vs (slot_at span r t)
+    → ((q : ℕ) → q < 96 → word_fits (head_at vs (slot_at span r t)) (word_at vs (slot_at span r t) q) ≡ true) → WordsFit rows span vs
+slot_fits rows span r t ws vs l words w here r' s q h m k = elim (cases_eq r' r) [
+  | inl p ↦ elim (cases_eq s t) [
+    | inl e ↦ (let P : ℕ → Type 0 = λ a. word_fits (head_at vs a) (word_at vs a q) ≡ true in
+        subst P (sym (ap (λ x. slot_at span x s) p ∙ ap (slot_at span r) e)) (here q k))
+    | inr n ↦ other (λ b. n b.1)
+  ]
+  | inr n ↦ other (λ b. n b.0)
+]
+  where
+    other : ((r' ≡ r) × (s ≡ t) → ⊥) → word_fits (head_at vs (slot_at span r' s)) (word_at vs (slot_at span r' s) q) ≡ true
+    other n =
+        let p = apart span r' s r t m l n in
+        ap (λ z. word_fits z (word_at vs (slot_at span r' s) q)) (stays_head ws vs _ (slot_at span r' s) w p)
+        ∙ (ap (word_fits (head_at ws (slot_at span r' s))) (stays_word ws vs _ (slot_at span r' s) q w p k) ∙ words r' s q h m k)
+
+pub cleared_fits : (rows span r t : ℕ) (ws vs : List ℤ) → t < span → WordsFit rows span ws → SlotCleared ws vs (slot_at span r t) → WordsFit rows span vs
+cleared_fits rows span r t ws vs l words c = slot_fits rows span r t ws vs l words c.around (λ q h.
+    ap (λ z. word_fits z (word_at vs (slot_at span r t) q)) (ap (head_at vs) (sym (add-zero (slot_at span r t))) ∙ c.blank 0 (omega arith))
+    ∙ ap is_zero (ap (head_at vs) (add_assoc (slot_at span r t) 1 q) ∙ c.blank (1 + q) (omega arith)))
+
+pub written_fits : (rows span r t d : ℕ) (ws vs : List ℤ) (c : Curve) → t < span → WordsFit rows span ws → SlotWritten ws vs (slot_at span r t) d c → WordsFit rows span vs
+written_fits rows span r t d ws vs c l words w = slot_fits rows span r t ws vs l words w.around (λ q h.
+    ap (λ z. word_fits z (word_at vs (slot_at span r t) q)) (w.first ∙ ap pos (add-one d))
+    ∙ (ap within (ap reading_from (w.rest q h) ∙ reading_word (reading_in c.readings q) (c.limited q h)) ∙ c.limited q h))
+
 -- one curve written
 
 fits_day : (span lo hi d : ℕ) → lo ≤ d → d < hi → d ≤ 36524 → head_fits span lo hi (d % span) (pos (d + 1)) ≡ true
@@ -222,16 +250,6 @@ module _ (rows span lo hi r d : ℕ) (ws vs : List ℤ) (c : Curve) (hs : 0 < sp
 
   slot_same : (r' s : ℕ) → r' ≡ r → s ≡ d % span → slot_at span r' s ≡ slot_at span r (d % span)
   slot_same r' s p q = ap (λ x. slot_at span x s) p ∙ ap (slot_at span r) q
-
-  -- a fact of each slot, by whether it is the one written
-  each : (P : ℕ → Type 0) (r' s : ℕ) → s < span → P (slot_at span r (d % span)) → (Apart (slot_at span r' s) (slot_at span r (d % span)) → P (slot_at span r' s)) → P (slot_at span r' s)
-  each P r' s l here else = elim (cases_eq r' r) [
-    | inl p ↦ elim (cases_eq s (d % span)) [
-      | inl q ↦ subst P (sym (slot_same r' s p q)) here
-      | inr q ↦ else (there r' s l (λ b. q b.1))
-    ]
-    | inr p ↦ else (there r' s l (λ b. p b.0))
-  ]
 
   here_word : (q : ℕ) → q < 96 → reading_from (word_at vs (slot_at span r (d % span)) q) ≡ reading_in c.readings q
   here_word q h = ap reading_from (wr.rest q h) ∙ reading_word (reading_in c.readings q) (c.limited q h)
@@ -248,11 +266,7 @@ module _ (rows span lo hi r d : ℕ) (ws vs : List ℤ) (c : Curve) (hs : 0 < sp
   ]
 
   written_words : WordsFit rows span vs
-  written_words r' s q h l k = each (λ a. word_fits (head_at vs a) (word_at vs a q) ≡ true) r' s l
-      (ap (λ z. word_fits z (word_at vs (slot_at span r (d % span)) q)) (wr.first ∙ ap pos (add-one d))
-      ∙ (ap within (here_word q k) ∙ c.limited q k))
-      (λ p. ap (λ z. word_fits z (word_at vs (slot_at span r' s) q)) (stays_head ws vs _ (slot_at span r' s) wr.around p)
-      ∙ (ap (word_fits (head_at ws (slot_at span r' s))) (stays_word ws vs _ (slot_at span r' s) q wr.around p k) ∙ words r' s q h l k))
+  written_words = written_fits rows span r (d % span) d ws vs c (mod_below d span hs) words wr
 
   -- elsewhere nothing changed
   look_elsewhere : (r' k : ℕ) → ((r' ≡ r) × (k % span ≡ d % span) → ⊥) → ring_look rows span vs r' k ≡ gained r d c (ring_look rows span ws) r' k
@@ -323,10 +337,10 @@ day_more n rows span d a ws vs us hs e c s =
     }
 
 -- a curve put, after the days before the new floor are gone
-pub put_means : (rows span lo to r d a : ℕ) (ws vs us : List ℤ) (c : Curve) → 0 < span → r < rows → to ≤ d → d < to + span → d ≤ 36524
+pub put_means : (rows span to r d a : ℕ) (ws vs us : List ℤ) (c : Curve) → 0 < span → r < rows → to ≤ d → d < to + span → d ≤ 36524
     → Means rows span to (to + span) vs (cut_under to (ring_look rows span ws)) → a ≡ slot_at span r (d % span) → SlotWritten vs us a d c
     → Means rows span to (to + span) us (cut_under to (gained r d c (ring_look rows span ws)))
-put_means rows span lo to r d a ws vs us c hs hr above before last m e w =
+put_means rows span to r d a ws vs us c hs hr above before last m e w =
     let t : SlotWritten vs us (slot_at span r (d % span)) d c = subst (λ (x : ℕ). SlotWritten vs us x d c) e w in
     let n = written rows span to (to + span) r d vs us c hs m.heads m.words (omega arith) hr above before last t in
     record {

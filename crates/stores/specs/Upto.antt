@@ -1,46 +1,40 @@
 -- Lists that are given by index, and what their rows hold.
-use Rattle.std.specs.Prelude.{◌≡◌, ℕ, zero, suc, ◌+◌, ◌-◌, ◌<◌, Bool, true, false, cond, List, [], ◌∷◌, ◌++◌, length, get_or, Some, None, filter, slice_index_or, refl}
-use Rattle.std.proofs.Common.{sym, ap, subst, ◌∙◌, inl, inr, add-one, add-zero, add-suc, arith}
-use Rattle.std.proofs.lemmas.List.{length_push, get_or_append_left, get_or_push, append-nil, same_lists, get_or_default}
+use Rattle.std.specs.Prelude.{◌≡◌, ℕ, zero, suc, ◌+◌, ◌-◌, ◌<◌, Bool, true, false, cond, List, [], ◌∷◌, ◌++◌, length, Some, None, filter, slice_index_or, refl}
+use Rattle.std.proofs.Common.{sym, ap, subst, ◌∙◌, add-one, add-zero, add-suc, arith}
+use Rattle.std.proofs.lemmas.List.{append-nil}
+use Rattle.std.proofs.lemmas.List.FromFn.{length-map-range_with_len, get_or-map-range_with_len, map-range_with_len_more, fill_by_all}
 use Rattle.std.proofs.lemmas.List.Elements.{filter-append}
-use Rattle.std.proofs.lemmas.Bool.{cases_lt}
 use Rattle.metering.specs.declared.curve.Curve.{Curve}
 use Rattle.metering.specs.Curves.{curve_of}
-use Rattle.stores.specs.Rows.{Row, upto, is_of, held_in}
+use Rattle.stores.specs.Words.{upto}
+use Rattle.stores.specs.Rows.{Row, is_of, held_in}
 
 pub upto_none : {X : Type 0} (f : ℕ → X) → upto f 0 ≡ []
 unfolding upto
 upto_none f = refl
 
-upto_suc : {X : Type 0} (f : ℕ → X) (n : ℕ) → upto f (suc n) ≡ upto f n ++ (f n ∷ [])
-unfolding upto
-upto_suc f n = refl
-
 pub upto_more : {X : Type 0} (f : ℕ → X) (n : ℕ) → upto f (n + 1) ≡ upto f n ++ (f n ∷ [])
-upto_more f n = rw add-one (upto_suc f n)
+unfolding upto
+upto_more f n = map-range_with_len_more f 0 n n (omega arith)
+
+upto_suc : {X : Type 0} (f : ℕ → X) (n : ℕ) → upto f (suc n) ≡ upto f n ++ (f n ∷ [])
+upto_suc f n = rw (← add-one n) (upto_more f n)
 
 pub length_upto : {X : Type 0} (f : ℕ → X) (n : ℕ) → length (upto f n) ≡ n
-length_upto f zero = ap length (upto_none f)
-length_upto f (suc n) = ap length (upto_suc f n) ∙ (length_push (upto f n) (f n) ∙ (let e = length_upto f n in omega arith))
+unfolding upto
+length_upto f n = length-map-range_with_len f 0 n
 
 pub get_or_upto : {X : Type 0} (f : ℕ → X) (n k : ℕ) (d : X) → k < n → slice_index_or (upto f n) k d ≡ f k
-get_or_upto f zero k d h = absurd (omega arith)
-get_or_upto {X} f (suc n) k d h =
-    let len = length_upto f n in
-    let s : get_or (upto f (suc n)) k d ≡ get_or (upto f n ++ (f n ∷ [])) k d = ap (λ (xs : List X). get_or xs k d) (upto_suc f n) in
-    elim (cases_lt k n) [ inl l ↦ s ∙ (get_or_append_left (upto f n) (f n ∷ []) d k (omega arith) ∙ get_or_upto f n k d l) | inr l ↦ (let e : k ≡ n = omega arith in s ∙ (get_or_push (upto f n) (f n) d k (omega arith) ∙ ap f (sym e))) ]
+unfolding upto
+get_or_upto f n k d h = get_or-map-range_with_len f 0 n k k d h (omega arith)
+
+pub upto_is : {X : Type 0} (f : ℕ → X) (n : ℕ) (xs : List X) (d : X) → length xs ≡ n → ((k : ℕ) → k < n → f k ≡ slice_index_or xs k d) → upto f n ≡ xs
+unfolding upto
+upto_is f n xs d e h = sym (fill_by_all f xs n d e (λ k l. sym (h k l)))
 
 pub upto_same : {X : Type 0} (f g : ℕ → X) (n : ℕ) → ((k : ℕ) → k < n → f k ≡ g k) → upto f n ≡ upto g n
 upto_same f g zero h = upto_none f ∙ sym (upto_none g)
-upto_same {X} f g (suc n) h =
-    let e : upto f n ≡ upto g n = upto_same f g n (λ k l. h k (omega arith)) in
-    let x : f n ≡ g n = h n (omega arith) in
-    upto_suc f n ∙ (ap (λ (xs : List X). xs ++ (f n ∷ [])) e ∙ ap (λ (y : X). upto g n ++ (y ∷ [])) x) ∙ sym (upto_suc g n)
-
-pub upto_is : {X : Type 0} (f : ℕ → X) (n : ℕ) (xs : List X) (d : X) → length xs ≡ n → ((k : ℕ) → k < n → f k ≡ slice_index_or xs k d) → upto f n ≡ xs
-upto_is f n xs d e h =
-    let len = length_upto f n in
-    same_lists (upto f n) xs (omega arith) (λ k z l. let lt : k < n = omega arith in get_or_upto f n k z lt ∙ (h k lt ∙ get_or_default xs k d z (omega arith)))
+upto_same f g (suc n) h = upto_is f (suc n) (upto g (suc n)) (g 0) (length_upto g (suc n)) (λ k l. h k l ∙ sym (get_or_upto g (suc n) k (g 0) l))
 
 -- one more row, that passes or does not
 pub kept_yes : {X : Type 0} (p : X → Bool) (f : ℕ → X) (n : ℕ) → p (f n) ≡ true → filter p (upto f (n + 1)) ≡ filter p (upto f n) ++ (f n ∷ [])

@@ -1,5 +1,6 @@
 // What a store refuses.
 ghost use Rattle.std.specs.Prelude.{◌≡◌};
+ghost use Rattle.stores.specs.Making.{fit_answer};
 ghost use Rattle.stores.specs.Refusals.{refusal_of};
 
 use refusals::{Layer, Refusal};
@@ -16,47 +17,25 @@ pub enum StoreFault {
     Full { resource: u32, day: u32 },
 }
 
+// What the tests of making answer.
+pub(crate) fn fit_answer(fits: bool) -> Result<(), StoreFault>
+    ensures { result ≡ fit_answer fits }
+{
+    if fits { Ok(()) } else { Err(StoreFault::Unfit) }
+}
+
 impl StoreFault {
     pub fn refusal(self) -> Refusal
         ensures { result ≡ refusal_of self }
     {
-        match self {
-            StoreFault::Unfit => Refusal {
-                number: 6,
-                layer: Layer::Store,
-                first: 0,
-                second: 0,
-            },
-            StoreFault::Day => Refusal {
-                number: 14,
-                layer: Layer::Store,
-                first: 0,
-                second: 0,
-            },
-            StoreFault::Resource { resource, day } => Refusal {
-                number: 10,
-                layer: Layer::Store,
-                first: resource,
-                second: day,
-            },
-            StoreFault::UnderFloor { resource, day } => Refusal {
-                number: 11,
-                layer: Layer::Store,
-                first: resource,
-                second: day,
-            },
-            StoreFault::Held { resource, day } => Refusal {
-                number: 12,
-                layer: Layer::Store,
-                first: resource,
-                second: day,
-            },
-            StoreFault::Full { resource, day } => Refusal {
-                number: 13,
-                layer: Layer::Store,
-                first: resource,
-                second: day,
-            },
-        }
+        let (number, first, second) = match self {
+            StoreFault::Unfit => (6, 0, 0),
+            StoreFault::Day => (14, 0, 0),
+            StoreFault::Resource { resource, day } => (10, resource, day),
+            StoreFault::UnderFloor { resource, day } => (11, resource, day),
+            StoreFault::Held { resource, day } => (12, resource, day),
+            StoreFault::Full { resource, day } => (13, resource, day),
+        };
+        Refusal::new(number, Layer::Store, first, second)
     }
 }

@@ -1,6 +1,7 @@
 // A journal: curves as rows of bytes, one after another in the order of their putting, in a memory of its own.
 ghost use Rattle.std.specs.Prelude.{◌≡◌, ◌-◌, ◌*◌, ◌<◌, ◌≤◌, true, length, take, drop, replicate};
-ghost use Rattle.stores.specs.Rows.{written, rows_in, apart, all_by, fine};
+ghost use Rattle.std.specs.List.{list_all};
+ghost use Rattle.stores.specs.Rows.{written, rows_in, apart, fine};
 
 mod holding;
 mod making;
@@ -26,5 +27,5 @@ pub struct Journal {
     ghost laid: { take (387 * rows) bytes.items ≡ written (rows_in bytes.items rows) },
     ghost blank: { 0 < capacity → drop (387 * rows) bytes.items ≡ replicate (length bytes.items - 387 * rows) 0 },
     ghost single: { apart (rows_in bytes.items rows) ≡ true },
-    ghost good: { all_by (fine width floor) (rows_in bytes.items rows) ≡ true },
+    ghost good: { list_all (fine width floor) (rows_in bytes.items rows) ≡ true },
 }

@@ -5,8 +5,8 @@ ghost use Rattle.stores.specs.Making.{fit_answer};
 ghost use Rattle.stores.specs.Keeper.{keeper_fits, kept};
 ghost use Rattle.stores.specs.Keeping.{kept_bounded};
 
-use crate::fault::StoreFault;
-use crate::store::{LAST_DAY, Store};
+use crate::fault::{StoreFault, fit_answer};
+use crate::store::{LAST_DAY, Store, admit, check_day};
 use metering::curve::Curve;
 use metering::reading::Reading;
 
@@ -21,11 +21,7 @@ pub struct Keeper<S: Drop> {
 pub fn keeper_fits(span: u32) -> Result<(), StoreFault>
     ensures { result ≡ fit_answer (keeper_fits span) }
 {
-    if span >= 1 && span <= LAST_DAY + 1 {
-        Ok(())
-    } else {
-        Err(StoreFault::Unfit)
-    }
+    fit_answer((1..=LAST_DAY + 1).contains(&span))
 }
 
 impl<S: Drop> Keeper<S> {
@@ -34,11 +30,8 @@ impl<S: Drop> Keeper<S> {
         ensures below { result.below ≡ below }
         ensures span { result.span ≡ (if keeper_fits span then span else 1) }
     {
-        if keeper_fits(span).is_ok() {
-            Keeper { below, span }
-        } else {
-            Keeper { below, span: 1 }
-        }
+        let span = if keeper_fits(span).is_ok() { span } else { 1 };
+        Keeper { below, span }
     }
 
     // Gives the store below back.
@@ -94,18 +87,8 @@ impl<S: Store + Drop> Store for Keeper<S> {
         ensures refused { is_ok result ≡ false → self.new.below ≡ self.old.below }
         ensures spans { (self.new.span ≡ self.old.span) × ((S.Store.model self.new.below).span ≡ (S.Store.model self.old.below).span) }
     {
-        if day > LAST_DAY {
-            return Err(StoreFault::Day);
-        }
-        if resource >= self.below.width() {
-            return Err(StoreFault::Resource { resource, day });
-        }
-        if day < self.below.floor() {
-            return Err(StoreFault::UnderFloor { resource, day });
-        }
-        if self.below.holds(resource, day) {
-            return Err(StoreFault::Held { resource, day });
-        }
+        let held = self.below.holds(resource, day);
+        admit(self.below.width(), self.below.floor(), held, resource, day)?;
         let span = self.span.min(self.below.span());
         let floor = self.below.floor().max((day + 1).saturating_sub(span));
         if self.below.held_from(floor) >= self.below.capacity() {
@@ -121,9 +104,7 @@ impl<S: Store + Drop> Store for Keeper<S> {
         ensures refused { is_ok result ≡ false → self.new.below ≡ self.old.below }
         ensures spans { (self.new.span ≡ self.old.span) × ((S.Store.model self.new.below).span ≡ (S.Store.model self.old.below).span) }
     {
-        if day > LAST_DAY {
-            return Err(StoreFault::Day);
-        }
+        check_day(day)?;
         self.below.drop_before(day)
     }
 }

@@ -6,3 +6,4 @@ pub mod journal;
 pub mod keeper;
 pub mod ring;
 pub mod store;
+mod word;

@@ -1,6 +1,7 @@
 // What every store of curves does, said by its meaning alone.
 ghost use Rattle.std.specs.Prelude.{◌≡◌, ℕ, is_some};
 ghost use Rattle.stores.specs.Model.{StoreModel, Bounded, held_from, put_answer, after_put, drop_answer, after_drop, reading_held};
+ghost use Rattle.stores.specs.Verdicts.{admission};
 
 use crate::fault::StoreFault;
 use metering::curve::Curve;
@@ -35,7 +36,7 @@ pub trait Store {
     fn reading(&self, resource: u32, day: u32, quarter: u32) -> Option<Reading>
         ensures { result ≡ reading_held ((model self.now).look resource day) quarter };
 
-    // The whole curve at once, so that settling looks it up only once.
+    // The whole curve at once: one look-up for all the readings of a day.
     fn curve(&self, resource: u32, day: u32) -> Option<Curve>
         ensures { result ≡ (model self.now).look resource day };
 
@@ -49,4 +50,38 @@ pub trait Store {
         ensures after { model self.new ≡ after_drop (model self.old) day };
 
     ghost bounded: { (s : Self) → Bounded (model s) };
+}
+
+// The calendar's test alone.
+pub(crate) fn check_day(day: u32) -> Result<(), StoreFault>
+    ensures { result ≡ drop_answer day }
+{
+    if day > LAST_DAY {
+        return Err(StoreFault::Day);
+    }
+    Ok(())
+}
+
+// What every store tests before a put; whether there is room is for each to say. Numbers and no store, since a put that handed its
+// own store on would be called by itself.
+pub(crate) fn admit(
+    width: u32,
+    floor: u32,
+    held: bool,
+    resource: u32,
+    day: u32,
+) -> Result<(), StoreFault>
+    ensures { result ≡ admission width floor held resource day }
+{
+    check_day(day)?;
+    if resource >= width {
+        return Err(StoreFault::Resource { resource, day });
+    }
+    if day < floor {
+        return Err(StoreFault::UnderFloor { resource, day });
+    }
+    if held {
+        return Err(StoreFault::Held { resource, day });
+    }
+    Ok(())
 }

@@ -16,12 +16,9 @@ fn ring_of(heap: Global, width: u16, span: u16) -> Result<Ring, AllocError> {
     Ok(Ring::new(words, width as u32, span as u32))
 }
 
-// The number of the refusal, or 0.
+// The number of the refusal, or 0, as the expected values below have it.
 fn number(answer: Result<(), StoreFault>) -> u32 {
-    match answer {
-        Ok(()) => 0,
-        Err(fault) => fault.refusal().number as u32,
-    }
+    answer.map_or_else(|fault| fault.refusal().number as u32, |()| 0)
 }
 
 // Puts a curve that is estimated but for its first quarter.

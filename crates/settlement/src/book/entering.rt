@@ -4,7 +4,8 @@ ghost use Rattle.ledger.specs.Book.{fresh, may_enter, may_drop};
 ghost use Rattle.settlement.specs.Meant.{meaning, after_enter, after_drop};
 
 use crate::book::Book;
-use crate::tables::{DeclarationTable, OrderTable, ResourceTable};
+use crate::tables::OrderTable;
+use arrayvec::ArrayVec;
 use ledger::fault::BookFault;
 use ledger::terms::Terms;
 use metering::curve::Curve;
@@ -19,9 +20,9 @@ impl<S: Store + Drop, R: Rulebook + Drop> Book<S, R> {
             terms,
             store,
             rules,
-            resources: ResourceTable::new(),
+            resources: ArrayVec::new(),
             orders: OrderTable::new(),
-            declarations: DeclarationTable::new(),
+            declarations: ArrayVec::new(),
         }
     }
 
@@ -32,18 +33,18 @@ impl<S: Store + Drop, R: Rulebook + Drop> Book<S, R> {
         if day > LAST_DAY {
             return Err(BookFault::Number);
         }
-        if resource as usize >= self.resources.as_slice().len() {
+        if resource as usize >= self.resources.len() {
             return Err(BookFault::NotRegistered { resource, day });
         }
-        self.store.put(resource, day, curve)?;
-        Ok(())
+        self.store
+            .put(resource, day, curve)
+            .map_err(BookFault::Store)
     }
 
     pub fn drop_before(&mut self, day: u32) -> Result<(), BookFault>
         ensures answer { result ≡ may_drop day }
         ensures after { meaning S.Store.model R.Rulebook.rules self.new ≡ after_drop (meaning S.Store.model R.Rulebook.rules self.old) day }
     {
-        self.store.drop_before(day)?;
-        Ok(())
+        self.store.drop_before(day).map_err(BookFault::Store)
     }
 }

@@ -18,7 +18,7 @@ impl<S: Store + Drop, R: Rulebook + Drop> Book<S, R> {
         month_in(
             &self.terms,
             self.orders.as_slice(),
-            self.declarations.as_slice(),
+            &self.declarations,
             year,
             month,
         )

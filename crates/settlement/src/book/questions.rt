@@ -37,14 +37,7 @@ impl<S: Store + Drop, R: Rulebook + Drop> Book<S, R> {
     pub fn into_store(self) -> S
         ensures { result ≡ self.store }
     {
-        let Book {
-            terms: _,
-            store,
-            rules: _rules,
-            resources: _resources,
-            orders: _orders,
-            declarations: _declarations,
-        } = self;
+        let Book { store, .. } = self;
         store
     }
 }

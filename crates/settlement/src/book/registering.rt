@@ -1,6 +1,5 @@
 // Registering a resource.
-ghost use Rattle.std.specs.Prelude.{◌≡◌, length};
-ghost use Rattle.std.specs.Str.{bytes_eq};
+ghost use Rattle.std.specs.Prelude.{◌≡◌};
 ghost use Rattle.ledger.specs.Book.{is_pod_byte, all_pod_bytes, is_used, fields_fit, chosen, is_empty, orders_in};
 ghost use Rattle.settlement.specs.Meant.{meaning, register_answer, after_register};
 
@@ -10,65 +9,42 @@ use ledger::records::{Booked, Resource};
 use rulebooks::Rulebook;
 use stores::store::Store;
 
-fn same(a: &[u8], b: &[u8]) -> bool
-    ensures { result ≡ bytes_eq a.now b.now }
-{
-    a == b
-}
-
 fn is_pod_byte(b: u8) -> bool
     ensures { result ≡ is_pod_byte b }
 {
-    b'A' <= b && b <= b'Z' || b'0' <= b && b <= b'9'
+    b.is_ascii_uppercase() || b.is_ascii_digit()
 }
 
 fn are_pod_bytes(pod: &[u8]) -> bool
     ensures { result ≡ all_pod_bytes pod.now }
 {
-    for b in pod {
-        if !is_pod_byte(*b) {
-            return false;
-        }
-    }
-    true
+    pod.iter().all(|b| is_pod_byte(*b))
 }
 
-fn is_used(resources: &[Resource], pod: &[u8]) -> bool
+fn is_used(resources: &[Resource], pod: &[u8; 14]) -> bool
     ensures { result ≡ is_used resources.now pod.now }
 {
-    for x in resources {
-        if same(&x.pod, pod) {
-            return true;
-        }
-    }
-    false
+    resources.iter().any(|x| x.pod == *pod)
 }
 
-fn fields_fit(resources: &[Resource], pod: &[u8], power: u32) -> bool
+fn fields_fit(resources: &[Resource], pod: &[u8; 14], power: u32) -> bool
     ensures { result ≡ fields_fit resources.now pod.now power }
 {
-    pod.len() == 14 && are_pod_bytes(pod) && !is_used(resources, pod) && 1 <= power && power <= 4000
+    are_pod_bytes(pod) && !is_used(resources, pod) && (1..=4000).contains(&power)
 }
 
+#[tactic(auto, using(crate::proofs::Walks::empty_orders))]
 fn is_unbooked(orders: &[Booked]) -> bool
     ensures { result ≡ is_empty (orders_in orders.now) }
 {
     orders.is_empty()
 }
 
+// Choice 0 stands for 1.
 fn chosen_by(choice: u8) -> u8
     ensures { result ≡ chosen choice }
 {
-    if choice == 0 { 1 } else { choice }
-}
-
-fn pod_of(bytes: &[u8]) -> [u8; 14]
-    requires { length bytes.now ≡ 14 }
-    ensures { result ≡ bytes.now }
-{
-    let mut pod = [0; 14];
-    pod.copy_from_slice(bytes);
-    pod
+    choice.max(1)
 }
 
 impl<S: Store + Drop, R: Rulebook + Drop> Book<S, R> {
@@ -77,13 +53,14 @@ impl<S: Store + Drop, R: Rulebook + Drop> Book<S, R> {
         ensures answer { result ≡ register_answer (meaning S.Store.model R.Rulebook.rules self.old) pod.now choice power }
         ensures after { meaning S.Store.model R.Rulebook.rules self.new ≡ after_register (meaning S.Store.model R.Rulebook.rules self.old) pod.now choice power }
     {
-        if !fields_fit(self.resources.as_slice(), pod, power) {
+        let pod = <[u8; 14]>::try_from(pod).map_err(|_| BookFault::Fields)?;
+        if !fields_fit(&self.resources, &pod, power) {
             return Err(BookFault::Fields);
         }
         if !is_unbooked(self.orders.as_slice()) {
             return Err(BookFault::OrdersBooked);
         }
-        let number = self.resources.as_slice().len() as u32;
+        let number = self.resources.len() as u32;
         if self.store.width() <= number {
             return Err(BookFault::NoRoom);
         }
@@ -91,11 +68,7 @@ impl<S: Store + Drop, R: Rulebook + Drop> Book<S, R> {
         if self.rules.days(choice).is_none() {
             return Err(BookFault::UnknownChoice);
         }
-        self.resources.push(Resource {
-            pod: pod_of(pod),
-            choice,
-            power,
-        });
+        self.resources.push(Resource { pod, choice, power });
         Ok(number)
     }
 }

@@ -22,7 +22,7 @@ impl<S: Store + Drop, R: Rulebook + Drop> Book<S, R> {
             &self.terms,
             &self.store,
             &self.rules,
-            self.resources.as_slice(),
+            &self.resources,
             self.orders.as_slice(),
             order,
             sheet,

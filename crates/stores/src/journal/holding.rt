@@ -7,10 +7,8 @@ ghost use Rattle.stores.specs.Meant;
 
 use crate::fault::StoreFault;
 use crate::journal::Journal;
-use crate::journal::rows::{
-    ROW, append_row, count_from, curve_at, drop_rows, find_row, reading_at,
-};
-use crate::store::Store;
+use crate::journal::rows::{ROW, append_row, curve_at, drop_rows, reading_at};
+use crate::store::{LAST_DAY, Store, admit, check_day};
 use metering::curve::Curve;
 use metering::reading::Reading;
 
@@ -28,7 +26,7 @@ impl Store for Journal {
     }
 
     fn span(&self) -> u32 {
-        if self.capacity == 0 { 1 } else { 36_525 }
+        if self.capacity == 0 { 1 } else { LAST_DAY + 1 }
     }
 
     fn floor(&self) -> u32 {
@@ -36,17 +34,15 @@ impl Store for Journal {
     }
 
     fn held_from(&self, day: u32) -> u32 {
-        count_from(self.bytes.as_slice(), self.rows, day)
+        self.count_from(day)
     }
 
     fn holds(&self, resource: u32, day: u32) -> bool {
-        find_row(self.bytes.as_slice(), self.rows, resource, day).is_some()
+        self.find_row(resource, day).is_some()
     }
 
     fn reading(&self, resource: u32, day: u32, quarter: u32) -> Option<Reading> {
-        let Some(i) = find_row(self.bytes.as_slice(), self.rows, resource, day) else {
-            return None;
-        };
+        let i = self.find_row(resource, day)?;
         if quarter >= 96 {
             return None;
         }
@@ -54,9 +50,7 @@ impl Store for Journal {
     }
 
     fn curve(&self, resource: u32, day: u32) -> Option<Curve> {
-        let Some(i) = find_row(self.bytes.as_slice(), self.rows, resource, day) else {
-            return None;
-        };
+        let i = self.find_row(resource, day)?;
         Some(curve_at(self.bytes.as_slice(), ROW * i))
     }
 
@@ -67,19 +61,9 @@ impl Store for Journal {
         ensures rows { rows_of self.new ≡ (if is_ok result then rows_of self.old ++ (row_of resource day curve.now ∷ []) else rows_of self.old) }
         ensures memory { memory_of self.new ≡ (if is_ok result then layout (rows_of self.old ++ (row_of resource day curve.now ∷ [])) (length (memory_of self.old)) else memory_of self.old) }
     {
-        if day > 36_524 {
-            return Err(StoreFault::Day);
-        }
-        if resource >= self.width {
-            return Err(StoreFault::Resource { resource, day });
-        }
-        if day < self.floor {
-            return Err(StoreFault::UnderFloor { resource, day });
-        }
+        let held = self.holds(resource, day);
+        admit(self.width, self.floor, held, resource, day)?;
         let rows = self.rows;
-        if let Some(_) = find_row(self.bytes.as_slice(), rows, resource, day) {
-            return Err(StoreFault::Held { resource, day });
-        }
         if rows >= self.capacity as usize {
             return Err(StoreFault::Full { resource, day });
         }
@@ -88,7 +72,7 @@ impl Store for Journal {
             ROW * rows,
             resource as u8,
             day as u16,
-            curve.readings(),
+            curve,
         );
         self.rows = rows + 1;
         Ok(())
@@ -100,13 +84,9 @@ impl Store for Journal {
         ensures rows { rows_of self.new ≡ (if is_ok result then filter (since day) (rows_of self.old) else rows_of self.old) }
         ensures memory { memory_of self.new ≡ (if is_ok result then rewritten self.old.capacity (memory_of self.old) (filter (since day) (rows_of self.old)) else memory_of self.old) }
     {
-        if day > 36_524 {
-            return Err(StoreFault::Day);
-        }
-        let rows = self.rows;
+        check_day(day)?;
         let floor = self.floor.max(day);
-        let left = drop_rows(self.bytes.as_mut_slice(), rows, day);
-        self.rows = left;
+        self.rows = drop_rows(self.bytes.as_mut_slice(), self.rows, day);
         self.floor = floor;
         Ok(())
     }

@@ -3,25 +3,21 @@ ghost use Rattle.std.specs.Prelude.{◌≡◌, [], length};
 ghost use Rattle.stores.specs.Making.{fit_answer};
 ghost use Rattle.stores.specs.Journals.{memory_of, rows_of, model_of, fitting, made_of, cleared, LaidOut};
 
-use crate::fault::StoreFault;
+use crate::fault::{StoreFault, fit_answer};
 use crate::journal::Journal;
 use crate::journal::rows::ROW;
 
 fn is_fit(bytes: usize, width: u32) -> bool
     ensures { result ≡ fitting bytes width }
 {
-    bytes >= ROW && 1 <= width && width <= 32
+    bytes >= ROW && (1..=32).contains(&width)
 }
 
 // Whether a journal can be made of this many bytes, for this width.
 pub fn journal_fits(bytes: usize, width: u32) -> Result<(), StoreFault>
     ensures { result ≡ fit_answer (fitting bytes width) }
 {
-    if is_fit(bytes, width) {
-        Ok(())
-    } else {
-        Err(StoreFault::Unfit)
-    }
+    fit_answer(is_fit(bytes, width))
 }
 
 impl Journal {

@@ -1,9 +1,9 @@
-use Rattle.std.proofs.Common.{◌≡◌, ◌+◌, ◌≤◌}
-use Rattle.calendar.specs.Gregorian.{first_day}
+use Rattle.std.proofs.Common.{◌≡◌, ◌-◌, ◌≤◌, true}
+use Rattle.calendar.specs.Gregorian.{first_day, is_month}
 use Rattle.calendar.proofs.dates.date_of.Given as goal
 
-abbrev pub invariant-loop-rest : goal.invariant-loop-rest
-invariant-loop-rest l = (first_day l.year l.month + l.rest ≡ l.day) × (1 ≤ l.month) × (l.month ≤ 12) × (2000 ≤ l.year) × (l.year + l.rest ≤ 2000 + l.day)
+abbrev pub invariant-loop-month : goal.invariant-loop-month
+invariant-loop-month l = record { known : is_month l.month.0 l.month.1.0 ≡ true; begun : first_day l.month.0 l.month.1.0 ≤ l.day }
 
-abbrev pub decreases-loop-rest : goal.decreases-loop-rest
-decreases-loop-rest l = l.rest
+abbrev pub decreases-loop-month : goal.decreases-loop-month
+decreases-loop-month l = l.day - first_day l.month.0 l.month.1.0

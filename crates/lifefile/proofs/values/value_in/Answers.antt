@@ -1,17 +1,25 @@
-use Rattle.std.proofs.Common.{◌≡◌, ℕ, eqb, List, length, get_or, drop, sym, ap, ◌∙◌}
-use Rattle.std.proofs.lemmas.List.{take_rest}
-use Rattle.std.proofs.lemmas.Bool.{and_right, cond-true, cond-false}
+use Rattle.std.proofs.Common.{rules, ◌≡◌, ◌≢◌, ℕ, false, eqb, List, [], ◌∷◌, ◌∙◌, ap, lit<, arith}
+use Rattle.std.proofs.lemmas.Grind.{common_steps}
+use Rattle.std.proofs.lemmas.Str.Pattern.{strip_prefix_char}
+use Rattle.std.specs.Cmp.Lexicographic.{pointwise}
 use Rattle.std.specs.Option.{option_map}
+use Rattle.lifefile.specs.declared.values.Value.TheVariants.{Injected}
 use Rattle.lifefile.specs.Words.{number_in}
-use Rattle.lifefile.specs.Values.{value_in, drawing}
+use Rattle.lifefile.specs.Values.{value_in}
 use Rattle.lifefile.proofs.values.value_in.Goals as goal
 
-drawn_value : (t : List ℕ) → get_or t 0 0 ≡ 45 → option_map drawing (number_in (drop 1 t)) ≡ value_in t
-drawn_value t e =
-    sym (cond-false _ _ _ (and_right (eqb (length t) 1) (eqb (get_or t 0 0) 69) (ap (λ b. eqb b 69) e))
-    ∙ cond-true (eqb (get_or t 0 0) 45) _ _ (ap (λ b. eqb b 45) e))
+-- a word that is neither E nor begins with a minus sign
+injected_value : (t : List ℕ) → false ≡ pointwise eqb t (69 ∷ []) → ((rest : List ℕ) → t ≢ 45 ∷ rest) → option_map (λ n. Injected n) (number_in t) ≡ value_in t
+injected_value [] e h = grind (arith, common_steps, e)
+injected_value (b ∷ []) e h =
+    let m : b ≢ 45 = λ q. h [] (ap (λ x. x ∷ []) q) in
+    grind (arith, common_steps, e, m)
+injected_value (b ∷ b2 ∷ bs) e h =
+    let m : b ≢ 45 = λ q. h (b2 ∷ bs) (ap (λ x. x ∷ b2 ∷ bs) q) in
+    grind (arith, common_steps, m)
 
-pub returns-then-bytes-eq45 : goal.returns-then-bytes-eq45
-returns-then-bytes-eq45 c =
-    let t = c.args.bytes.now in
-    c.drawn_by.ensures ∙ ap (option_map drawing) (c.number_in.ensures ∙ ap number_in (take_rest t 1)) ∙ drawn_value t c.if-bytes-eq45.true
+pub returns-in-None : goal.returns-in-None
+returns-in-None c =
+    let m : c.map-in-None.result ≡ option_map (λ n. Injected n) (number_in c.args.word.now) = search rules in
+    let none = rw c.in-None.is at (strip_prefix_char 45 c.args.word.now c.strip_prefix.result c.strip_prefix.ensures.cases (lit< tt)) in
+    m ∙ injected_value c.args.word.now c.if-eq.ensures none

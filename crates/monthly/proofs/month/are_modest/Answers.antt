@@ -1,14 +1,12 @@
-use Rattle.std.proofs.Common.{true, false, sym, ◌∙◌}
-use Rattle.std.proofs.lemmas.List.{at_drop_all}
-use Rattle.ledger.specs.Standing.{are_modest}
-use Rattle.monthly.proofs.Modest.{modest_next}
+use Rattle.std.proofs.Common.{◌∙◌, rules}
+use Rattle.std.proofs.lemmas.Iterator.{YieldsList-from_slice}
+use Rattle.std.proofs.lemmas.Iterator.Search.{all_from_yields_List}
+use Rattle.ledger.specs.declared.records.Booked.{Booked}
+use Rattle.ledger.specs.Standing.{is_modest}
+use Rattle.monthly.proofs.Modest.{all_modest}
 use Rattle.monthly.proofs.month.are_modest.Goals as goal
 
-pub returns-then-not-is_modest : goal.returns-then-not-is_modest
-returns-then-not-is_modest c = sym (modest_next c.args.orders.now c.loop-booked.booked-index _ false c.loop-booked-test.true (sym c.is_modest.ensures ∙ c.if-not-is_modest.true)) ∙ c.loop-booked.invariant
-
-pub loop-booked-preserved : goal.loop-booked-preserved
-loop-booked-preserved c = sym (modest_next c.args.orders.now c.loop-booked.booked-index _ true c.loop-booked-test.true (sym c.is_modest.ensures ∙ c.if-not-is_modest.false)) ∙ c.loop-booked.invariant
-
 pub returns : goal.returns
-returns c = sym (at_drop_all are_modest c.args.orders.now c.loop-booked.booked-index c.loop-booked-test.false) ∙ c.loop-booked.invariant
+returns c =
+    all_from_yields_List (λ (b : Booked). is_modest b.result) _ _ _ c.all.ensures.ran (YieldsList-from_slice c.args.orders.now cc) (λ x b q k. search rules)
+    ∙ all_modest c.args.orders.now

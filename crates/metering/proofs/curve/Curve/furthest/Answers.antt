@@ -5,5 +5,5 @@ use Rattle.metering.proofs.curve.Curve.furthest.Goals as goal
 
 pub loop-q-preserved : goal.loop-q-preserved
 loop-q-preserved c =
-    let rs = c.readings-readings.result.now in
+    let rs = c.readings-reading-items.result.now in
     subst (Furthest c.args.upward rs (c.loop-q.q + 1)) (sym c.peak_with-best.ensures) (peak_more c.args.upward rs c.loop-q.q c.loop-q.best c.loop-q.invariant)

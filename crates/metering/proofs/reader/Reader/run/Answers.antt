@@ -1,7 +1,6 @@
 use Rattle.std.proofs.Common.{◌+◌, drop, Err, sym, ap, ◌∙◌}
-use Rattle.std.proofs.lemmas.List.{at_drop_more, at_drop_all}
+use Rattle.std.proofs.lemmas.List.{at_drop_more}
 use Rattle.std.proofs.lemmas.Result.{err_from_is_err_and}
-use Rattle.std.proofs.lemmas.Bool.{cond-true, cond-false, eq-eqb, ne_eqb}
 use Rattle.metering.specs.Machine.{machine_of, runs, outcome}
 use Rattle.metering.proofs.Turns.{passes, stops}
 use Rattle.metering.proofs.reader.Reader.run.Goals as goal
@@ -18,21 +17,3 @@ loop-byte-preserved c =
     let e = at_drop_more (runs (machine_of c.loop-byte.self)) c.args.text.now c.loop-byte.byte-index 0 c.loop-byte-test.true in
     let s = passes (λ n. runs n (drop (c.loop-byte.byte-index + 1) c.args.text.now)) _ _ _ _ _ c.step.ensures.result c.step.ensures.state c.in_ok-step.was in
     c.loop-byte.invariant ∙ e ∙ s
-
-pub returns-then-self-eq98 : goal.returns-then-self-eq98
-returns-then-self-eq98 c =
-    let w = c.loop-byte.invariant ∙ at_drop_all (runs (machine_of c.loop-byte.self)) c.args.text.now c.loop-byte.byte-index c.loop-byte-test.false in
-    sym (w ∙ cond-true _ _ _ (eq-eqb c.loop-byte.self.place.line 98 c.if-self-eq98.true))
-
-pub returns-then-self-eq1 : goal.returns-then-self-eq1
-returns-then-self-eq1 c =
-    let w = c.loop-byte.invariant ∙ at_drop_all (runs (machine_of c.loop-byte.self)) c.args.text.now c.loop-byte.byte-index c.loop-byte-test.false in
-    sym (w ∙ cond-false _ _ _ (ne_eqb c.loop-byte.self.place.line 98 c.if-self-eq98.false)
-    ∙ ap Err (cond-true _ _ _ (eq-eqb c.loop-byte.self.place.line 1 c.if-self-eq1.true)))
-
-pub returns : goal.returns
-returns c =
-    let w = c.loop-byte.invariant ∙ at_drop_all (runs (machine_of c.loop-byte.self)) c.args.text.now c.loop-byte.byte-index c.loop-byte-test.false in
-    ap Err c.fault.ensures
-    ∙ sym (w ∙ cond-false _ _ _ (ne_eqb c.loop-byte.self.place.line 98 c.if-self-eq98.false)
-    ∙ ap Err (cond-false _ _ _ (ne_eqb c.loop-byte.self.place.line 1 c.if-self-eq1.false)))

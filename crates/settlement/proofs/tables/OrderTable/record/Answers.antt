@@ -1,9 +1,12 @@
-use Rattle.std.proofs.Common.{arith}
+use Rattle.std.proofs.Common.{◌≤◌, length, refl, arith}
 use Rattle.settlement.proofs.Held.{recorded_there, recorded_past}
 use Rattle.settlement.proofs.tables.OrderTable.record.Goals as goal
 
-pub returns-then-number-self : goal.returns-then-number-self
-returns-then-number-self c = recorded_there c.args.self.now.orders c.args.self.now.count c.args.number c.args.outcome _ (omega arith) (omega arith)
+pub returns-in-Some : goal.returns-in-Some
+returns-in-Some c =
+    recorded_there c.args.self.now.orders.items c.args.number c.args.outcome c.in-Some.booked.now (c.in-Some.ensures.variant.0 refl) c.in-Some.ensures.value
 
-pub returns-else-number-self : goal.returns-else-number-self
-returns-else-number-self c = recorded_past c.args.self.now.orders c.args.self.now.count c.args.number c.args.outcome (omega arith)
+pub returns-in_default : goal.returns-in_default
+returns-in_default c =
+    let h : length c.args.self.now.orders.items ≤ c.args.number = grind (arith, c.in_default.ensures.variant) in
+    recorded_past c.args.self.now.orders.items c.args.number c.args.outcome h

@@ -4,9 +4,8 @@ use Rattle.stores.specs.Standing.{laid_out}
 use Rattle.stores.specs.Meant.{standing}
 use Rattle.stores.proofs.journal.Journal.memory.Goals as goal
 
-pub returns : goal.returns
-returns c =
+pub returns-clause-layout : goal.returns-clause-layout
+returns-clause-layout c =
     let j = c.args.self.now in
-    let e = c.as_slice.ensures.value in
     let P : List ℕ → Type 0 = λ bs. LaidOut bs (rows_of j) (model_of j) in
-    record { is = e; layout = subst P (sym e) (laid_out _ _ _ _ _ (standing j)) }
+    subst P (sym c.as_slice.ensures.value) (laid_out _ _ _ _ _ (standing j))

@@ -37,18 +37,17 @@ granted false h = absurd (both_ways true h refl)
 told : (c : After-is_err) → c.is_err.result ≡ is_err (fit_answer (ring_fits (length (vec_items c.args.memory)) c.args.width c.args.span))
 told c = c.is_err.ensures.value ∙ (ap is_err c.ring_fits.ensures ∙ ap (λ (n : ℕ). is_err (fit_answer (ring_fits n c.args.width c.args.span))) (c.len.ensures ∙ c.args.memory.ok.0))
 
+pub invariant_of-grid : goal.invariant_of-grid
+invariant_of-grid c = record {
+  few = omega arith;
+  spans = (omega arith, omega arith);
+  room = omega arith;
+  exact = λ h. absurd (omega arith);
+  readings = each_words 0 1 c.args.memory.items (λ r s q h l k. absurd (omega arith));
+}
+
 pub invariant_of-result : goal.invariant_of-result
-invariant_of-result c =
-    let ws = vec_items c.args.memory in
-    record {
-      few = omega arith;
-      spans = (omega arith, omega arith);
-      low = omega arith;
-      room = omega arith;
-      exact = (λ h. absurd (omega arith));
-      heads = each_heads 0 1 0 1 ws (λ r s h l. absurd (omega arith));
-      readings = each_words 0 1 ws (λ r s q h l k. absurd (omega arith));
-    }
+invariant_of-result c = record { low = omega arith; heads = each_heads 0 1 0 1 c.args.memory.items (λ r s h l. absurd (omega arith)) }
 
 pub returns-then-is_err : goal.returns-then-is_err
 returns-then-is_err c =
@@ -64,25 +63,31 @@ zeroed c =
     let l : length c.fill.new.self ≡ c.args.memory.len = c.fill.ensures.len ∙ a.len in
     with_items_is c.args.memory c.fill.new.self l ∙ (c.fill.ensures.after (λ y e. e) ∙ ap (λ (n : ℕ). replicate n (pos 0)) (a.len ∙ c.args.memory.ok.0))
 
-pub invariant_of-result-2 : goal.invariant_of-result-2
-invariant_of-result-2 c =
+pub invariant_of-grid-2 : goal.invariant_of-grid-2
+invariant_of-grid-2 c =
     let v = c.args.memory in
     let w = c.args.width in
     let s = c.args.span in
-    let f = fits (length (vec_items v)) w s (granted _ (sym (told (goal.at.invariant_of-result-2 c).After-is_err) ∙ c.if-is_err.false)) in
-    let z = sym (zeroed (goal.at.invariant_of-result-2 c).After-fill) in
-    let H : List ℤ → Type 0 = λ ws. heads_fit w s 0 (0 + s) ws ≡ true in
+    let f = fits (length v.items) w s (granted _ (sym (told (goal.at.invariant_of-grid-2 c).After-is_err) ∙ c.if-is_err.false)) in
     let W : List ℤ → Type 0 = λ ws. words_fit w s ws ≡ true in
     let l = v.ok.0 in
     let e = f.exact in
     record {
       few = f.to;
       spans = (f.span_from, f.span_to);
-      low = omega arith;
       room = omega arith;
-      exact = (λ h. l ∙ f.exact);
-      heads = subst H z (each_heads w s 0 (0 + s) _ (blank_heads w s 0 (0 + s) (length (vec_items v))));
-      readings = subst W z (each_words w s _ (blank_words w s (length (vec_items v))));
+      exact = λ h. l ∙ f.exact;
+      readings = subst W (sym (zeroed (goal.at.invariant_of-grid-2 c).After-fill)) (each_words w s _ (blank_words w s (length v.items)));
+    }
+
+pub invariant_of-result-2 : goal.invariant_of-result-2
+invariant_of-result-2 c =
+    let w = c.args.width in
+    let s = c.args.span in
+    let H : List ℤ → Type 0 = λ ws. heads_fit w s 0 (0 + s) ws ≡ true in
+    record {
+      low = omega arith;
+      heads = subst H (sym (zeroed (goal.at.invariant_of-result-2 c).After-fill)) (each_heads w s 0 (0 + s) _ (blank_heads w s 0 (0 + s) (length c.args.memory.items)));
     }
 
 pub returns : goal.returns

@@ -1,41 +1,38 @@
-use Rattle.std.proofs.Common.{◌≡◌, ℕ, ◌+◌, ◌*◌, ◌<◌, ◌≤◌, true, cond, leb, List, ◌++◌, length, take, drop, None, Ok, Err, sym, refl, ap, ◌∙◌, subst, arith}
+use Rattle.std.proofs.Common.{◌≡◌, ℕ, ◌+◌, ◌*◌, ◌<◌, Bool, true, cond, leb, List, ◌++◌, length, take, drop, Ok, Err, sym, refl, ap, ◌∙◌, subst, arith}
 use Rattle.std.proofs.lemmas.List.{take_at}
-use Rattle.std.proofs.lemmas.Bool.{le-leb, lt-leb, le-ltb}
-use Rattle.metering.specs.declared.reading.Reading.{Reading}
+use Rattle.std.proofs.lemmas.Bool.{le-leb, lt-leb}
 use Rattle.metering.specs.declared.curve.Curve.{Curve}
 use Rattle.metering.proofs.Same.{curve_of_same}
 use Rattle.stores.specs.declared.journal.Journal.{Journal}
 use Rattle.stores.specs.declared.fault.StoreFault.TheVariants.{Full}
 use Rattle.stores.specs.Model.{unless, put_into, put_answer}
-use Rattle.stores.specs.Rows.{row_bytes, rows_in, held_in, fine}
+use Rattle.stores.specs.Rows.{row_bytes, fine}
 use Rattle.stores.specs.Journals.{row_of, rows_of, model_of, meaning}
 use Rattle.stores.specs.Standing.{Put, put}
+use Rattle.stores.specs.Verdicts.{Admitted, admitted, put_room}
 use Rattle.stores.specs.Meant.{standing, full_test, put_means, curve_fine}
 use Rattle.stores.proofs.journal.holding.JournalStore.put.Goals as goal
-use Rattle.stores.proofs.journal.holding.JournalStore.put.Goals.{After-append_row}
+use Rattle.stores.proofs.journal.holding.JournalStore.put.Goals.{In_ok-admit, After-append_row}
 
 -- the answer where nothing but a full journal can refuse
-answer : (j : Journal) (r d : ℕ) → d ≤ 36524 → r < j.width → j.floor ≤ d → held_in (rows_of j) r d ≡ None
-    → put_answer (model_of j) r d ≡ cond (leb j.capacity j.rows) (Err (Full r d)) (Ok tt)
-answer j r d a b f free =
-    let t1 = le-ltb 36524 d a in
-    let t2 = lt-leb j.width r b in
-    let t3 = le-ltb d j.floor f in
-    let t5 = full_test _ j.width j.capacity j.floor j.rows d (standing j) a in
-    simp (t1, t2, t3, free, t5)
+answer : (j : Journal) (r d : ℕ) → Admitted (model_of j) r d → put_answer (model_of j) r d ≡ cond (leb j.capacity j.rows) (Err (Full r d)) (Ok tt)
+answer j r d a =
+    put_room (model_of j) r d a ∙ ap (λ (b : Bool). cond b (Err (Full r d)) (Ok tt)) (full_test _ j.width j.capacity j.floor j.rows d (standing j) a.last)
+
+told : (c : In_ok-admit) → Admitted (model_of c.args.self.now) c.args.resource c.args.day
+told c = admitted (model_of c.args.self.now) c.args.resource c.args.day _ _ c.holds-held.result refl refl c.holds-held.ensures (c.in_ok-admit.ensures)
 
 pub returns-then-rows-self : goal.returns-then-rows-self
 returns-then-rows-self c =
     let s = c.args.self.now in
     let r = c.args.resource in
     let d = c.args.day in
-    let free : held_in (rows_of s) r d ≡ None = ap (λ (bs : List ℕ). held_in (rows_in bs s.rows) r d) (sym c.as_slice.ensures.value) ∙ c.in_default.ensures in
     let t = le-leb s.capacity s.rows c.if-rows-self.true in
-    let a : Err (Full r d) ≡ put_answer (model_of s) r d = sym (answer s r d c.if-day-gt36524.false c.if-resource-self.false c.if-day-self.false free ∙ simp t) in
+    let a : Err (Full r d) ≡ put_answer (model_of s) r d = sym (answer s r d (told (goal.at.returns-then-rows-self c).In_ok-admit) ∙ simp t) in
     record { answer = a; after = ap (λ x. unless x (model_of s) (put_into (model_of s) r d c.args.curve.now)) a; rows = refl; memory = refl }
 
 record Sure (j : Journal) (r d : ℕ) (c : Curve) (bs : List ℕ) : Type 0 where
-  free : held_in (rows_of j) r d ≡ None
+  admitted : Admitted (model_of j) r d
   ok : fine j.width j.floor (row_of r d c) ≡ true
   done : Put j.bytes.items bs j.width j.capacity j.floor j.rows (row_of r d c)
 
@@ -49,17 +46,16 @@ sure c =
     let ws = c.append_row.new.bytes in
     let e = row_of r d c.args.curve.now in
     let a = c.as_mut_slice.ensures.value in
-    let free : held_in (rows_of s) r d ≡ None = ap (λ (xs : List ℕ). held_in (rows_in xs s.rows) r d) (sym c.as_slice.ensures.value) ∙ c.in_default.ensures in
-    let ok = curve_fine s.width s.floor r d c.args.curve.now c.if-resource-self.false c.if-day-self.false c.if-day-gt36524.false in
+    let t = told (goal.at.After-append_row c).In_ok-admit in
+    let ok = curve_fine s.width s.floor r d c.args.curve.now t.resource t.above t.last in
     let q : ws ≡ take (387 * s.rows) bs ++ (row_bytes e ++ drop (387 * s.rows + 387) bs) =
     c.append_row.ensures
-    ∙ ap (λ (xs : List ℕ). take (387 * s.rows) xs ++ (row_bytes (record { resource = r; day = d; readings = c.readings.result.now }) ++ drop (387 * s.rows + 387) xs)) a
-    ∙ ap (λ (rs : List Reading). take (387 * s.rows) bs ++ (row_bytes (record { resource = r; day = d; readings = rs }) ++ drop (387 * s.rows + 387) bs)) c.readings.ensures in
+    ∙ ap (λ (xs : List ℕ). take (387 * s.rows) xs ++ (row_bytes e ++ drop (387 * s.rows + 387) xs)) a in
     let lw : length ws ≡ length bs = c.append_row.auto.bytes ∙ ap length a in
-    let p = put bs ws s.width s.capacity s.floor s.rows e (standing s) c.if-rows-self.false ok free lw q in
-    let t : ws ≡ take v.len (ws ++ drop (length ws) bs) = sym (take_at ws (drop (length ws) bs) v.len (lw ∙ sym v.ok.0)) in
+    let p = put bs ws s.width s.capacity s.floor s.rows e (standing s) c.if-rows-self.false ok t.free lw q in
+    let e' : ws ≡ take v.len (ws ++ drop (length ws) bs) = sym (take_at ws (drop (length ws) bs) v.len (lw ∙ sym v.ok.0)) in
     let P : List ℕ → Type 0 = λ xs. Put bs xs s.width s.capacity s.floor s.rows e in
-    record { free = free; ok = ok; done = subst P t p }
+    record { admitted = t; ok = ok; done = subst P e' p }
 
 pub invariant_of-self : goal.invariant_of-self
 invariant_of-self c =
@@ -87,11 +83,11 @@ returns c =
     let S = sure (goal.at.returns c).After-append_row in
     let lt : s.rows < s.capacity = c.if-rows-self.false in
     let t = lt-leb s.capacity s.rows lt in
-    let a : Ok tt ≡ put_answer (model_of s) r d = sym (answer s r d c.if-day-gt36524.false c.if-resource-self.false c.if-day-self.false S.free ∙ simp t) in
+    let a : Ok tt ≡ put_answer (model_of s) r d = sym (answer s r d S.admitted ∙ simp t) in
     record {
       answer = a;
       after = ap (meaning s.width s.capacity s.floor) S.done.rows
-          ∙ put_means s.width s.capacity s.floor (rows_of s) (row_of r d k) k (omega arith) c.if-day-gt36524.false s.good S.ok S.free (curve_of_same k)
+          ∙ put_means s.width s.capacity s.floor (rows_of s) (row_of r d k) k (omega arith) S.admitted.last s.good S.ok S.admitted.free (curve_of_same k)
           ∙ ap (λ x. unless x (model_of s) (put_into (model_of s) r d k)) a;
       rows = S.done.rows;
       memory = S.done.memory;

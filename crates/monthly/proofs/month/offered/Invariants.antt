@@ -1,7 +1,0 @@
-use Rattle.std.proofs.Common.{◌≡◌, ◌-◌, ◌*◌, ◌≤◌}
-use Rattle.ledger.specs.Words.{counting}
-use Rattle.ledger.specs.Book.{offered}
-use Rattle.monthly.proofs.month.offered.Given as goal
-
-abbrev pub invariant-loop-day : goal.invariant-loop-day
-invariant-loop-day l = (l.quarters ≡ offered l.terms l.declarations (counting l.first (l.day - l.first))) × (l.quarters ≤ 96 * (l.day - l.first))
