@@ -1,7 +1,6 @@
 // What a program is asked to read, the reading of it, and how the program ends.
 #![tactic(auto)]
 
-ghost use Rattle.std.specs.Option.{option_copied};
 ghost use Rattle.std.specs.Prelude.{◌≡◌, IfErr, IfOk, IfSome, Ok};
 ghost use Rattle.asking.specs.Asked.{Asks};
 
@@ -13,22 +12,22 @@ use std::process::ExitCode;
 #[cfg(test)]
 mod tests;
 
-// What the first word after a program's name asks for.
+// What the words after a program's name ask for: the first decides, and of files all are the names.
 #[derive(Clone, Copy, PartialEq, Eq, Debug)]
-pub enum Asked {
+pub enum Asked<'a> {
     Help,
     Input,
-    Files,
+    Files(&'a [String]),
 }
 
 // Without a word the standard input is read.
-pub fn asked_by(first: Option<&str>) -> Asked
-    ensures { Asks (option_copied first.entry) result }
+pub fn asked_by(words: &[String]) -> Asked<'_>
+    ensures { Asks words.now result }
 {
-    match first {
+    match words.first().map(|word| word.as_str()) {
         Some("--help" | "-h") => Asked::Help,
         Some("-") | None => Asked::Input,
-        Some(_) => Asked::Files,
+        Some(_) => Asked::Files(words),
     }
 }
 

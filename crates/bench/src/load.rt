@@ -60,6 +60,7 @@ pub fn curve_of(resource: u32, day: u32) -> Curve {
     })
 }
 
+// The last digits by hand: a formatted text would need the heap, and an error of its own.
 fn pod_of(number: u8) -> [u8; 14] {
     let mut pod = *b"IT001E00000000";
     pod[12] = b'0' + number / 10 % 10;

@@ -126,40 +126,41 @@ impl fmt::Display for Words {
     }
 }
 
-fn write_line<W: fmt::Display>(
-    out: &mut String,
-    line: usize,
-    refusal: Refusal,
-    words: &W,
-) -> Result<(), AllocError> {
-    let Refusal {
-        number,
-        layer,
-        first,
-        second,
-    } = refusal;
-    let matter = matter_of(number);
-    writeln!(
-        out,
-        "{line} refused {number} {layer} {first} {second} {words}: {matter}"
-    )
+// The reply to one line of a life: the text that it goes to, and the line's number, which it begins with.
+#[derive(Drop)]
+pub struct Reply<'a> {
+    pub out: &'a mut String,
+    pub line: usize,
 }
 
-pub fn write_refused(out: &mut String, line: usize, fault: BookFault) -> Result<(), AllocError> {
-    write_line(out, line, fault.refusal(), &Words(fault))
-}
+impl Reply<'_> {
+    fn refusal<W: fmt::Display>(&mut self, refusal: Refusal, words: &W) -> Result<(), AllocError> {
+        let line = self.line;
+        let Refusal {
+            number,
+            layer,
+            first,
+            second,
+        } = refusal;
+        let matter = matter_of(number);
+        writeln!(
+            self.out,
+            "{line} refused {number} {layer} {first} {second} {words}: {matter}"
+        )
+    }
 
-// A curve that could not be formed or imported.
-pub fn write_unformed(out: &mut String, line: usize, fault: Fault) -> Result<(), AllocError> {
-    match fault {
-        Fault::Lists => write_line(
-            out,
-            line,
-            fault.refusal(),
-            &"the values do not come to 96, or one is beyond 1000000 Wh either way",
-        ),
-        Fault::Header { .. } | Fault::Row { .. } => {
-            write_line(out, line, fault.refusal(), &fault)
+    pub fn refused(&mut self, fault: BookFault) -> Result<(), AllocError> {
+        self.refusal(fault.refusal(), &Words(fault))
+    }
+
+    // A curve that could not be formed or imported.
+    pub fn unformed(&mut self, fault: Fault) -> Result<(), AllocError> {
+        match fault {
+            Fault::Lists => self.refusal(
+                fault.refusal(),
+                &"the values do not come to 96, or one is beyond 1000000 Wh either way",
+            ),
+            Fault::Header { .. } | Fault::Row { .. } => self.refusal(fault.refusal(), &fault),
         }
     }
 }

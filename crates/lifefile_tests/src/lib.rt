@@ -5,8 +5,8 @@ use ledger::life::Answer;
 use ledger::records::{Month, Outcome};
 use lifefile::flaw::Flaw;
 use lifefile::line::Note;
+use lifefile::refused::Reply;
 use lifefile::script::{At, Exports, Script, read_script};
-use lifefile::text::write_answer;
 use lifefile::words::{day, direction, number, quarter};
 use std::alloc::Global;
 use std::test::Fail;
@@ -114,7 +114,11 @@ fn settled(rt: HostRuntime) -> Result<(), Fail> {
         outcome,
         sheet: sheet(),
     };
-    write_answer(&mut out, 10, Note::Order(3), 2, &answer)?;
+    let mut reply = Reply {
+        out: &mut out,
+        line: 10,
+    };
+    reply.answer(Note::Order(3), 2, &answer)?;
     assert_eq!(rt;
         out.as_str(),
         "10 ok settle 3 sum -7 pTa 0 EDa 8000 SETa 0 paid 0 pay 0\n10 evidence 0 days 1 2026-06-29 C -17600 L -240000\n10 evidence 1 estimated\n"
@@ -136,7 +140,11 @@ fn month(rt: HostRuntime) -> Result<(), Fail> {
         upm: 144,
         pay: 1794,
     };
-    write_answer(&mut out, 51, Note::Plain, 1, &Answer::Month(figures))?;
+    let mut reply = Reply {
+        out: &mut out,
+        line: 51,
+    };
+    reply.answer(Note::Plain, 1, &Answer::Month(figures))?;
     assert_eq!(rt;
         out.as_str(),
         "51 ok month AV 672 DI 660 EDm 8000 pTm 7200 SETm 7200 DPm 90,05 APm 1650 UPm 144 pay 1794\n"

@@ -15,26 +15,32 @@ of injected minus drawn energy, its lowest and highest quarter and the quarters 
 An export that is not well formed is refused: the refusal is printed with its number, line and column
 and whose matter it is, and the program ends with status 1.";
 
+fn read_file(rt: &HostRuntime, file: &str) -> anyhow::Result<ExitCode> {
+    match fs::read(rt, file) {
+        Ok(bytes) => report::export(rt, bytes.as_slice()),
+        // Told here: an error that is passed on keeps a text only in part.
+        Err(e) => {
+            eprintln!(rt; "meter: {file} cannot be read: {e}")?;
+            Ok(ExitCode::FAILURE)
+        }
+    }
+}
+
 fn run(rt: &HostRuntime) -> anyhow::Result<ExitCode> {
     let words: Vec<String> = env::args(rt)?.skip(1).collect(rt.alloc())?;
     if words.len() > 1 {
         bail!("more than one file is named; meter --help says what it takes");
     }
-    let file = words.first().map(|word| word.as_str());
-    match (asked_by(file), file) {
-        (Asked::Help, _) => {
+    match asked_by(words.as_slice()) {
+        Asked::Help => {
             println!(rt; "{HELP}")?;
             Ok(ExitCode::SUCCESS)
         }
-        (Asked::Files, Some(path)) => match fs::read(rt, path) {
-            Ok(bytes) => report::export(rt, bytes.as_slice()),
-            // Told here: an error that is passed on keeps a text only in part.
-            Err(e) => {
-                eprintln!(rt; "meter: {path} cannot be read: {e}")?;
-                Ok(ExitCode::FAILURE)
-            }
-        },
-        _ => report::export(rt, read_whole(rt.alloc(), rt.stdin())?.as_slice()),
+        // Files are never none: the empty list stands here so that no arm catches the rest.
+        Asked::Input | Asked::Files([]) => {
+            report::export(rt, read_whole(rt.alloc(), rt.stdin())?.as_slice())
+        }
+        Asked::Files([file, ..]) => read_file(rt, file.as_str()),
     }
 }
 

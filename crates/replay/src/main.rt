@@ -6,6 +6,7 @@ mod source;
 
 use asking::{Asked, asked_by, ended, read_whole};
 use lifefile::script::{At, read_script};
+use report::Run;
 use source::{Beside, text_of};
 use std::process::ExitCode;
 use std::{env, fs, io};
@@ -46,7 +47,12 @@ fn replay(rt: &HostRuntime, life: &str, bytes: &[u8]) -> anyhow::Result<ExitCode
     let text = text_of(rt.alloc(), bytes)?;
     let script = read_script(rt.alloc(), &Beside { rt, life }, text.as_str());
     let mut out = String::new(rt.alloc());
-    let flaw = report::run(rt.alloc(), &mut out, &script)?;
+    let mut run = Run {
+        heap: rt.alloc(),
+        out: &mut out,
+        script: &script,
+    };
+    let flaw = run.run()?;
     print!(rt; "{out}")?;
     match flaw {
         None => Ok(ExitCode::SUCCESS),
@@ -80,13 +86,13 @@ fn replay_all(rt: &HostRuntime, files: &[String]) -> anyhow::Result<ExitCode> {
 
 fn run(rt: &HostRuntime) -> anyhow::Result<ExitCode> {
     let words: Vec<String> = env::args(rt)?.skip(1).collect(rt.alloc())?;
-    match asked_by(words.first().map(|word| word.as_str())) {
+    match asked_by(words.as_slice()) {
         Asked::Help => {
             println!(rt; "{HELP}")?;
             Ok(ExitCode::SUCCESS)
         }
         Asked::Input => replay(rt, "", read_whole(rt.alloc(), rt.stdin())?.as_slice()),
-        Asked::Files => replay_all(rt, words.as_slice()),
+        Asked::Files(files) => replay_all(rt, files),
     }
 }
 
