@@ -53,7 +53,7 @@ padded_one n h =
     let e : 1 - length (decimal n) ≡ 0 = omega arith in
     padded_lem 1 n ∙ rw e refl
 
-two : (n : ℕ) → n < 2 ^ 32 → padded 2 n ≡ decimal (n / 10) ++ decimal (n % 10)
+pub two : (n : ℕ) → n < 2 ^ 32 → padded 2 n ≡ decimal (n / 10) ++ decimal (n % 10)
 two n h = padded_more 0 n (omega arith) ∙ ap (λ (xs : List ℕ). xs ++ decimal (n % 10)) (padded_one (n / 10) (omega arith))
 
 four : (n : ℕ) → n < 2 ^ 32 → padded 4 n ≡ decimal (n / 1000) ++ (decimal (n / 100 % 10) ++ (decimal (n / 10 % 10) ++ decimal (n % 10)))

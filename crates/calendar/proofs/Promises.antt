@@ -75,7 +75,7 @@ pub record Known (y m : ℕ) : Type 0 where
 pub known : (y m : ℕ) → is_month y m ≡ true → Known y m
 known y m h = record { from = grind (arith, nat_tests); to = grind (arith, nat_tests); month_from = grind (arith, nat_tests); month_to = grind (arith, nat_tests) }
 
-end_of : (y m : ℕ) → first_day y m + month_length y m ≡ last_day y m + 1
+pub end_of : (y m : ℕ) → first_day y m + month_length y m ≡ last_day y m + 1
 unfolding last_day
 end_of y m = omega (arith, length_from y m)
 
@@ -135,9 +135,6 @@ first_of_year y m h l =
     let d : m ≡ 12 = let k = known y m h in omega arith in
     first_year y (known y m h).from ∙ end_of y 12 ∙ ap (λ z. last_day y z + 1) (sym d)
 
-pub ends_later : (y m : ℕ) → is_month y m ≡ true → first_day y m ≤ last_day y m
-ends_later y m h = omega (arith, months_in_a_row.least y m h)
-
 -- where the search for a day's month begins
 pub begun_known : (d : ℕ) → d ≤ 36524 → is_month (2000 + d / 366) 1 ≡ true
 begun_known d h = grind (arith, nat_tests)
@@ -163,7 +160,7 @@ week = record {
 -- what each call's laws and loops rest on
 pub ruleset of_days = (undo, every_date)
 
-pub ruleset of_dates = (day_by_day, undo, every_day, begun_known, begun_before, ends_later, month_days)
+pub ruleset of_dates = (day_by_day, undo, every_day, begun_known, begun_before, end_of, length_from, month_days)
 
 pub ruleset of_next = (next_in_year, next_year, first_in_year, first_of_year)
 

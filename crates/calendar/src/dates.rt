@@ -54,12 +54,16 @@ pub fn date_of(day: u32) -> Option<Date>
         year: FIRST_YEAR + day / 366,
         month: 1,
     };
-    while month.last_day() < day {
+    let mut first = month.first_day();
+    let mut after = first + month.length();
+    while after <= day {
         month = month.next();
+        first = after;
+        after += month.length();
     }
     Some(Date {
         year: month.year,
         month: month.month,
-        day: day - month.first_day() + 1,
+        day: day - first + 1,
     })
 }

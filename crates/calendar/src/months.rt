@@ -65,7 +65,7 @@ impl Month {
     }
 
     #[tactic(auto, unfolding(crate::specs::Gregorian::last_day))]
-    pub(crate) fn last_day(self) -> u32
+    fn last_day(self) -> u32
         ensures { result ≡ last_day self.year self.month }
     {
         self.first_day() + self.length() - 1

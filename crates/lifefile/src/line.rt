@@ -233,14 +233,21 @@ pub fn is_passed_over(text: &str) -> bool {
     text.is_empty() || text.starts_with('#')
 }
 
+// A word between blanks.
+fn present(word: &str) -> Result<&str, Flaw> {
+    if word.is_empty() {
+        Err(Flaw::Spaces)
+    } else {
+        Ok(word)
+    }
+}
+
 pub fn parse_line(heap: Global, text: &str) -> Result<Line, Flaw> {
     if !text.is_ascii() {
         return Err(Flaw::NotAscii);
     }
-    let words: Vec<&str> = text.split(' ').collect(heap)?;
-    if words.iter().any(|word| word.is_empty()) {
-        return Err(Flaw::Spaces);
-    }
+    // Each tested before it is kept: a line of blanks alone takes no memory.
+    let words: Vec<&str> = text.split(' ').map(present).try_collect(heap)?;
     match words.as_slice() {
         [first, rest @ ..] => line_of(heap, first, rest),
         [] => Err(Flaw::Count),

@@ -2,7 +2,7 @@
 use calendar::date_of;
 use ledger::fault::BookFault;
 use metering::fault::Fault;
-use refusals::{Refusal, matter_of};
+use refusals::{Layer, Refusal, matter_of};
 use rulebooks::RuleFault;
 use std::alloc::AllocError;
 use std::fmt;
@@ -162,5 +162,61 @@ impl Reply<'_> {
             ),
             Fault::Header { .. } | Fault::Row { .. } => self.refusal(fault.refusal(), &fault),
         }
+    }
+}
+
+// What a refusal from anywhere tells, by its number and its layer; nothing where a book has none of that number.
+fn fault_of(refusal: Refusal) -> Option<BookFault> {
+    let Refusal {
+        number,
+        layer,
+        first,
+        second,
+    } = refusal;
+    let (resource, day) = (first, second);
+    let fault = match number {
+        1 => BookFault::Terms,
+        2 => BookFault::Fields,
+        3 => BookFault::OrdersBooked,
+        4 => BookFault::NoRoom,
+        5 => BookFault::UnknownChoice,
+        6 => BookFault::Store(StoreFault::Unfit),
+        10 if layer == Layer::Store => BookFault::Store(StoreFault::Resource { resource, day }),
+        10 => BookFault::NotRegistered { resource, day },
+        11 => BookFault::Store(StoreFault::UnderFloor { resource, day }),
+        12 => BookFault::Store(StoreFault::Held { resource, day }),
+        13 => BookFault::Store(StoreFault::Full { resource, day }),
+        14 => BookFault::Number,
+        15 => BookFault::Outside,
+        16 => BookFault::TooSoon,
+        17 => BookFault::ManyOrders,
+        18 => BookFault::Declared,
+        19 => BookFault::ManyDeclarations,
+        20 => BookFault::NoOrder,
+        21 => BookFault::Settled,
+        22 => BookFault::NoCurve { resource, day },
+        23 => BookFault::ShortHistory {
+            resource,
+            found: second,
+        },
+        24 => BookFault::Rule {
+            resource,
+            quarter: second,
+            fault: RuleFault::NoBaseline,
+        },
+        25 => BookFault::NoMonth,
+        26 => BookFault::Unsettled { order: first },
+        27 => BookFault::ShortMemory,
+        _ => return None,
+    };
+    Some(fault)
+}
+
+// For a caller that has the refusal alone, as a record of it: its line, with the words of its number.
+pub fn write_refused(out: &mut String, line: usize, refusal: Refusal) -> Result<(), AllocError> {
+    let mut reply = Reply { out, line };
+    match fault_of(refusal) {
+        Some(fault) => reply.refusal(refusal, &Words(fault)),
+        None => reply.refusal(refusal, &"this cannot be granted"),
     }
 }

@@ -1,15 +1,21 @@
 // Life files read line by line, and the lines of their answers.
 #![tactic(auto)]
 
+use ledger::fault::BookFault;
 use ledger::life::Answer;
 use ledger::records::{Month, Outcome};
 use lifefile::flaw::Flaw;
 use lifefile::line::Note;
-use lifefile::refused::Reply;
+use lifefile::making::{Made, ring_of};
+use lifefile::refused::{Reply, write_refused};
 use lifefile::script::{At, Exports, Script, read_script};
 use lifefile::words::{day, direction, number, quarter};
+use metering::fault::Fault;
+use refusals::{Layer, Refusal};
+use rulebooks::RuleFault;
 use std::alloc::Global;
 use std::test::Fail;
+use stores::fault::StoreFault;
 
 #[test]
 fn words(rt: HostRuntime) {
@@ -148,6 +154,77 @@ fn month(rt: HostRuntime) -> Result<(), Fail> {
     assert_eq!(rt;
         out.as_str(),
         "51 ok month AV 672 DI 660 EDm 8000 pTm 7200 SETm 7200 DPm 90,05 APm 1650 UPm 144 pay 1794\n"
+    );
+    Ok(())
+}
+
+// A refusal alone is told in the same line as the fault that it came from; one of no known number is told too.
+#[test]
+fn refused(rt: HostRuntime) -> Result<(), Fail> {
+    for (fault, line) in [
+        (
+            BookFault::ShortHistory {
+                resource: 0,
+                found: 12,
+            },
+            "7 refused 23 book 0 12 only 12 of the history days that the choice of resource 0 needs are held: a matter for the settler\n",
+        ),
+        (
+            BookFault::Store(StoreFault::Resource {
+                resource: 5,
+                day: 9,
+            }),
+            "7 refused 10 store 5 9 the store is too narrow for resource 5: a matter for the meter operator\n",
+        ),
+        (
+            BookFault::NotRegistered {
+                resource: 5,
+                day: 9,
+            },
+            "7 refused 10 book 5 9 no resource 5 is registered: a matter for the meter operator\n",
+        ),
+        (
+            BookFault::Rule {
+                resource: 2,
+                quarter: 44,
+                fault: RuleFault::NoBaseline,
+            },
+            "7 refused 24 rulebook 2 44 the rule of resource 2 gives no baseline for quarter 44: a matter for the settler\n",
+        ),
+    ] {
+        let mut out = String::new(rt.alloc());
+        write_refused(&mut out, 7, fault.refusal())?;
+        assert_eq!(rt; out.as_str(), line);
+        let mut reply = Reply {
+            out: &mut out,
+            line: 7,
+        };
+        reply.refused(fault)?;
+        assert_eq!(rt; out.as_str(), [line, line].concat(rt.alloc())?.as_str());
+    }
+    let mut out = String::new(rt.alloc());
+    write_refused(&mut out, 3, Refusal::new(7, Layer::Import, 0, 0))?;
+    assert_eq!(rt;
+        out.as_str(),
+        "3 refused 7 import 0 0 this cannot be granted: a matter for the meter operator\n"
+    );
+    Ok(())
+}
+
+#[test]
+fn made_filled_unformed(rt: HostRuntime) -> Result<(), Fail> {
+    let mut out = String::new(rt.alloc());
+    let mut reply = Reply {
+        out: &mut out,
+        line: 4,
+    };
+    let Made { store, fits } = ring_of(rt.alloc(), 2, 60, None)?;
+    reply.made("store", fits, &store)?;
+    reply.filled(Ok(()))?;
+    reply.unformed(Fault::Lists)?;
+    assert_eq!(rt;
+        out.as_str(),
+        "4 ok store width 2 capacity 120 span 60\n4 ok terms\n4 refused 7 import 0 0 the values do not come to 96, or one is beyond 1000000 Wh either way: a matter for the meter operator\n"
     );
     Ok(())
 }

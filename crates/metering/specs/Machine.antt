@@ -1,5 +1,6 @@
 -- The machine that reads a text byte by byte.
 use Rattle.std.specs.Prelude.{ℕ, cond, List, [], ◌∷◌, Some, None, Ok, Err, Option, Result}
+use Rattle.metering.specs.declared.reading.Reading.{Reading}
 use Rattle.metering.specs.declared.place.Kind.TheVariants.{Name}
 use Rattle.metering.specs.declared.cell.Cell.{Cell}
 use Rattle.metering.specs.declared.reader.Reader.{Reader}
@@ -15,8 +16,9 @@ pub record Machine : Type 0 where
   pub progress : Progress
   pub cell : Cell
 
-abbrev pub machine_of : Reader → Machine
-machine_of r = record { progress = record { place = r.place; row = r.row; readings = r.curve.readings }; cell = r.cell }
+-- a reader, and the readings of the rows before
+abbrev pub machine_of : Reader → List Reading → Machine
+machine_of r rs = record { progress = record { place = r.place; row = r.row; readings = rs }; cell = r.cell }
 
 abbrev pub begin : Machine
 begin = record { progress = begun; cell = start Name }

@@ -10,6 +10,8 @@ use crate::reading::Reading;
 
 impl Curve {
     // Each quarter as the closure answers it, in turn; estimated where that is beyond the limits.
+    // Inlined, so that a build drops the test of the limits where the closure's answers are known to keep them.
+    #[inline(always)]
     pub fn from_fn<F: FnMut(usize) -> Reading>(mut f: F) -> Curve
         requires { CallableAtEachTurn (index_steps 96) (λ p x q. (y : Reading) × F.step p x y q) F.pre 0 f }
         ensures { (readings : List Reading) × IsFromFnResult F.FnMut f readings 96 × (result ≡ curve_of readings) }

@@ -18,6 +18,8 @@ fn estimated_by(mark: u8) -> Option<bool>
 }
 
 // The reading of a quarter, where the three lists give one.
+// Inlined, so that a build sees it within the limits, and drops the test of `place`.
+#[inline(always)]
 fn formed(injected: u32, drawn: u32, mark: u8) -> Option<Reading>
     ensures { result ≡ formed_by injected drawn (marked mark) }
 {

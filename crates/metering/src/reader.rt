@@ -1,5 +1,6 @@
 // The machine that reads an export: its own state and the byte decide the next state.
-ghost use Rattle.std.specs.Prelude.{◌≡◌};
+ghost use Rattle.std.specs.Prelude.{◌≡◌, replicate};
+ghost use Rattle.metering.specs.declared.reading.Reading.TheVariants.{Estimated};
 ghost use Rattle.metering.specs.Progress.{filled, noted};
 ghost use Rattle.metering.specs.Meaning.{ended_at};
 ghost use Rattle.metering.specs.Machine.{machine_of, begin, next, ends, verdict, after, outcome, runs};
@@ -21,21 +22,18 @@ pub struct Row {
 }
 
 impl Row {
-    // The row with the field at this place.
-    fn with(self, place: Place, value: Value) -> Row
-        ensures { result ≡ filled place value self }
+    // Takes in the field at this place.
+    fn fill(&mut self, place: Place, value: Value)
+        ensures { self.new ≡ filled place value self.old }
     {
         let Place::Row(place) = place else {
-            return self;
+            return;
         };
         match value {
-            Value::Amount(wh) if place.column == place.columns.a1 => Row { drawn: wh, ..self },
-            Value::Amount(wh) => Row {
-                injected: wh,
-                ..self
-            },
-            Value::Mark(estimated) => Row { estimated, ..self },
-            _ => self,
+            Value::Amount(wh) if place.column == place.columns.a1 => self.drawn = wh,
+            Value::Amount(wh) => self.injected = wh,
+            Value::Mark(estimated) => self.estimated = estimated,
+            _ => {}
         }
     }
 }
@@ -60,17 +58,17 @@ pub struct Imported {
     pub width: u8,
 }
 
+// The curve stands apart, since it is written at any quarter: a build then keeps most of this in registers.
 #[derive(Clone, Copy)]
 pub struct Reader {
     pub place: Place,
     pub row: Row,
-    pub curve: Curve,
     pub cell: Cell,
 }
 
 impl Reader {
     pub(crate) fn new() -> Reader
-        ensures { machine_of result ≡ begin }
+        ensures { machine_of result (replicate 96 Estimated) ≡ begin }
     {
         Reader {
             place: Place::Header(InHeader {
@@ -78,49 +76,47 @@ impl Reader {
                 sought: Sought::default(),
             }),
             row: Row::default(),
-            curve: Curve::blank(),
             cell: Cell::start(Kind::Name),
         }
     }
 
     // A semicolon or a line feed ends the field.
-    fn end_field(&mut self, separator: u8) -> Result<(), Fault>
-        ensures result { result ≡ verdict (ends (machine_of self.old) separator) }
-        ensures state { machine_of self.new ≡ after (machine_of self.old) (ends (machine_of self.old) separator) }
+    fn end_field(&mut self, curve: &mut Curve, separator: u8) -> Result<(), Fault>
+        ensures result { result ≡ verdict (ends (machine_of self.old curve.old.readings) separator) }
+        ensures state { machine_of self.new curve.new.readings ≡ after (machine_of self.old curve.old.readings) (ends (machine_of self.old curve.old.readings) separator) }
     {
         let value = self
             .cell
             .value(self.place.kind())
             .ok_or_else(|| self.place.fault())?;
         let place = self.place.after(value, separator)?;
-        let row = self.row.with(self.place, value);
+        self.row.fill(self.place, value);
         if separator == b'\n' {
-            note(&mut self.curve, self.place, row);
+            note(curve, self.place, self.row);
         }
-        self.row = row;
         self.place = place;
         self.cell = Cell::start(place.kind());
         Ok(())
     }
 
-    pub(crate) fn step(&mut self, byte: u8) -> Result<(), Fault>
-        ensures result { result ≡ verdict (next (machine_of self.old) byte) }
-        ensures state { machine_of self.new ≡ after (machine_of self.old) (next (machine_of self.old) byte) }
+    pub(crate) fn step(&mut self, curve: &mut Curve, byte: u8) -> Result<(), Fault>
+        ensures result { result ≡ verdict (next (machine_of self.old curve.old.readings) byte) }
+        ensures state { machine_of self.new curve.new.readings ≡ after (machine_of self.old curve.old.readings) (next (machine_of self.old curve.old.readings) byte) }
     {
         match byte as char {
-            ';' | '\n' => self.end_field(byte),
+            ';' | '\n' => self.end_field(curve, byte),
             _ => self.cell.step(byte).ok_or_else(|| self.place.fault()),
         }
     }
 
     // The text may end after the row of quarter 95.
-    fn end(self) -> Result<Imported, Fault>
-        ensures { outcome result ≡ ended_at self.place self.curve.readings }
+    fn end(self, curve: Curve) -> Result<Imported, Fault>
+        ensures { outcome result ≡ ended_at self.place curve.readings }
     {
         match self.place {
             Place::Header(_) => Err(Fault::Header { column: 0 }),
             Place::Row(place) if place.quarter == 96 => Ok(Imported {
-                curve: self.curve,
+                curve,
                 columns: place.columns,
                 width: place.width,
             }),
@@ -130,11 +126,12 @@ impl Reader {
 
     // The whole text, and that it ends where it should.
     pub(crate) fn run(mut self, text: &[u8]) -> Result<Imported, Fault>
-        ensures { outcome result ≡ runs (machine_of self) text.now }
+        ensures { outcome result ≡ runs (machine_of self (replicate 96 Estimated)) text.now }
     {
+        let mut curve = Curve::blank();
         for byte in text {
-            self.step(*byte)?;
+            self.step(&mut curve, *byte)?;
         }
-        self.end()
+        self.end(curve)
     }
 }

@@ -19,7 +19,8 @@ impl Reading {
         ensures { result ≡ within self }
     {
         match self {
-            Reading::Measured(wh) => wh.unsigned_abs() <= MOST,
+            // By both ends, not by the absolute value: so a build drops the test where a reading is known to pass.
+            Reading::Measured(wh) => (-(MOST as i32)..=MOST as i32).contains(&wh),
             Reading::Estimated => true,
         }
     }

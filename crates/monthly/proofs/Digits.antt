@@ -1,72 +1,52 @@
--- Digits at the end of a line.
-use Rattle.std.proofs.Common.{◌≡◌, ℕ, zero, suc, ◌+◌, ◌-◌, ◌*◌, ◌/◌, ◌%◌, ◌^◌, ◌<◌, ◌≤◌, List, [], ◌∷◌, ◌++◌, length, decimal, refl, sym, ap, ◌∙◌, append_assoc, pow-suc, div-one, arith, length-append}
+-- Digits before what is gathered of a figure's text.
+use Rattle.std.proofs.Common.{◌≡◌, ℕ, zero, suc, ◌+◌, ◌-◌, ◌/◌, ◌%◌, ◌^◌, ◌<◌, ◌≤◌, List, [], ◌∷◌, ◌++◌, length, drop, set, decimal, refl, ap, ◌∙◌, append_assoc, pow-suc, add-one, arith, length-append}
 use native.Mathlib.Nat.{div-div-eq-div-mul}
-use Rattle.std.proofs.Math.Nat.{div-le_self}
-use Rattle.std.proofs.lemmas.Fmt.{decimal_step, decimal_digit, length-decimal-le}
-use Rattle.ledger.specs.LineText.{last_digits, fraction, decimals}
+use Rattle.std.proofs.lemmas.List.{drop-set}
+use Rattle.std.proofs.lemmas.Fmt.{decimal_step, decimal_digit}
+use Rattle.ledger.specs.LineText.{last_digits, fraction}
 use Rattle.monthly.specs.declared.cell.Cell.{Cell}
-use Rattle.monthly.specs.declared.cell.Places.{Places}
-use Rattle.monthly.specs.declared.cell.Places.TheVariants.{Zero, Two, Three, Four}
 use Rattle.monthly.specs.Cells.{places_of, cell}
 
-pub grown : (old new xs : List ℕ) → new ≡ old ++ xs → length new ≡ length old + length xs
-grown old new xs e = ap length e ∙ length-append old xs
+-- a byte put before what stands
+pub one_before : (xs : List ℕ) (f b : ℕ) → 0 < f → f ≤ length xs → drop (f - 1) (set xs (f - 1) b) ≡ b ∷ drop f xs
+one_before xs f b p h = let e : (f - 1) + 1 ≡ f = omega arith in let d = drop-set xs (f - 1) b (omega arith) in cc
 
--- a number, digit by digit
-pub length-one_digit : (n : ℕ) → n < 10 → length (decimal n) ≡ 1
-length-one_digit n h = ap length (decimal_digit n h)
-
-pub length-more_digits : (n : ℕ) → 10 ≤ n → n < 2 ^ 64 → length (decimal n) ≡ length (decimal (n / 10)) + 1
-length-more_digits n h f = ap length (decimal_step n h f) ∙ length-append (decimal (n / 10)) _
-
-pub one_digit : (n : ℕ) (old new : List ℕ) → n < 10 → new ≡ old ++ ((48 + n) ∷ []) → new ≡ old ++ decimal n
-one_digit n old new h e = let d = decimal_digit n h in cc
-
-pub more_digits : (n : ℕ) (old front new : List ℕ) → 10 ≤ n → n < 2 ^ 64 → front ≡ old ++ decimal (n / 10) → new ≡ front ++ ((48 + n % 10) ∷ []) → new ≡ old ++ decimal n
-more_digits n old front new h f e g =
-    let d = decimal_step n h f in
-    let a = append_assoc old (decimal (n / 10)) ((48 + n % 10) ∷ []) in
+-- a number, digit by digit from its last
+pub digit_more : (rest : ℕ) (now then all : List ℕ) → 10 ≤ rest → rest < 2 ^ 64 → then ≡ (48 + rest % 10) ∷ now → decimal rest ++ now ≡ all → decimal (rest / 10) ++ then ≡ all
+digit_more rest now then all big fits e inv =
+    let s = decimal_step rest big fits in
+    let a = append_assoc (decimal (rest / 10)) ((48 + rest % 10) ∷ []) now in
     cc
+
+pub digit_less : (rest : ℕ) → 10 ≤ rest → rest < 2 ^ 64 → length (decimal rest) ≡ length (decimal (rest / 10)) + 1
+digit_less rest big fits = ap length (decimal_step rest big fits) ∙ length-append (decimal (rest / 10)) _
+
+pub first_digit : (rest : ℕ) (now then all : List ℕ) → rest < 10 → then ≡ (48 + rest) ∷ now → decimal rest ++ now ≡ all → then ≡ all
+first_digit rest now then all small e inv = let d = decimal_digit rest small in cc
 
 -- the last digits of a number
-last_digits_end : (k n : ℕ) → last_digits (suc k) n ≡ last_digits k (n / 10) ++ ((48 + n % 10) ∷ [])
-last_digits_end zero n = ap (λ z. (48 + z % 10) ∷ []) (div-one n)
-last_digits_end (suc k) n =
-    let p : 10 ^ suc k ≡ 10 * 10 ^ k = omega (arith, pow-suc 10 k) in
-    let e : n / 10 ^ suc k ≡ n / 10 / 10 ^ k = ap (λ z. n / z) p ∙ sym (div-div-eq-div-mul n 10 (10 ^ k)) in
-    let i = last_digits_end k n in
-    cc
+pub place_more : (k n : ℕ) → n / 10 ^ k / 10 ≡ n / 10 ^ (k + 1)
+place_more k n = rw (add-one, pow-suc) (div-div-eq-div-mul n (10 ^ k) 10)
 
-pub length-last_digits : (k n : ℕ) → length (last_digits k n) ≡ k
-length-last_digits zero n = refl
-length-last_digits (suc k) n = ap suc (length-last_digits k n)
+last_digits_more : (k n : ℕ) → last_digits (k + 1) n ≡ (48 + n / 10 ^ k % 10) ∷ last_digits k n
+last_digits_more k n = rw add-one refl
 
-pub one_last_digit : (k n : ℕ) (old front new : List ℕ) → 0 < k → front ≡ old ++ last_digits (k - 1) (n / 10) → new ≡ front ++ ((48 + n % 10) ∷ []) → new ≡ old ++ last_digits k n
-one_last_digit zero n old front new h e g = absurd (omega arith)
-one_last_digit (suc k) n old front new h e g =
-    let d = last_digits_end k n in
-    let a = append_assoc old (last_digits k (n / 10)) ((48 + n % 10) ∷ []) in
-    let z : suc k - 1 ≡ k = omega arith in
-    cc
+pub place_step : (k n rest : ℕ) (now then base : List ℕ) → rest ≡ n / 10 ^ k → now ≡ last_digits k n ++ base → then ≡ (48 + rest % 10) ∷ now → then ≡ last_digits (k + 1) n ++ base
+place_step k n rest now then base er en et = let p = last_digits_more k n in cc
+
+-- and the comma before them
+pub comma : (k n : ℕ) (base now then : List ℕ) → 0 < k → now ≡ last_digits k n ++ base → then ≡ 44 ∷ now → then ≡ fraction k n ++ base
+comma zero n base now then h e g = absurd (omega arith)
+comma (suc k) n base now then h e g = cc
+
+pub no_comma : (k n : ℕ) (base now : List ℕ) → k ≤ 0 → now ≡ last_digits k n ++ base → now ≡ fraction k n ++ base
+no_comma zero n base now h e = e
+no_comma (suc k) n base now h e = absurd (omega arith)
 
 -- a figure
-pub length-fraction : (k n : ℕ) → length (fraction k n) ≤ 1 + k
-length-fraction zero n = omega arith
-length-fraction (suc k) n = let e = length-last_digits (suc k) n in omega arith
-
-pub few_places : (p : Places) → places_of p ≤ 4
-few_places Zero = omega arith
-few_places Two = omega arith
-few_places Three = omega arith
-few_places Four = omega arith
-
-pub short : (n m : ℕ) → n < 2 ^ 64 → length (decimal (n / m)) ≤ 20
-short n m h = let l = div-le_self n m in length-decimal-le 20 (n / m) (omega arith) (omega arith) (omega arith)
-
-pub cell_is : (c : Cell) (old whole all new : List ℕ) (scale count : ℕ) → scale ≡ 10 ^ places_of c.places → count ≡ places_of c.places
-    → whole ≡ old ++ decimal (c.value / scale) → all ≡ whole ++ fraction count c.value → new ≡ all ++ (c.end ∷ []) → new ≡ old ++ cell c
+pub cell_is : (c : Cell) (k rest : ℕ) (none ended tail all : List ℕ) → k ≡ places_of c.places → none ≡ [] → ended ≡ c.end ∷ none
+    → tail ≡ fraction k c.value ++ ended → rest ≡ c.value / 10 ^ k → all ≡ decimal rest ++ tail → all ≡ cell c
 unfolding cell
-cell_is c old whole all new scale count es ec ew ea en =
-    let a = append_assoc old (decimal (c.value / 10 ^ places_of c.places)) (fraction (places_of c.places) c.value) in
-    let b = append_assoc old (decimals (places_of c.places) c.value) (c.end ∷ []) in
+cell_is c k rest none ended tail all ek en ee et er ea =
+    let a = append_assoc (decimal (c.value / 10 ^ places_of c.places)) (fraction (places_of c.places) c.value) (c.end ∷ []) in
     cc

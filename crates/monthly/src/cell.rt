@@ -1,7 +1,7 @@
 // A figure of the line: a number with decimals, as text.
-ghost use Rattle.std.specs.Prelude.{◌≡◌, ◌+◌, ◌^◌, ◌≤◌, ◌++◌, length, decimal};
+ghost use Rattle.std.specs.Prelude.{◌≡◌, ◌+◌, ◌/◌, ◌^◌, ◌<◌, ◌≤◌, ◌∷◌, ◌++◌, length, drop, decimal};
 ghost use Rattle.arrayvec.specs.ArrayVec.{array_vec_len};
-ghost use Rattle.ledger.specs.LineText.{last_digits, fraction};
+ghost use Rattle.ledger.specs.LineText.{last_digits};
 ghost use Rattle.monthly.specs.Cells.{places_of, cell};
 
 use arrayvec::ArrayVec;
@@ -26,45 +26,47 @@ impl Places {
     {
         self as u32
     }
-
-    fn scale(self) -> u64
-        ensures { result ≡ 10 ^ places_of self }
-    {
-        10u64.pow(self.count())
-    }
 }
 
+// A figure's text is gathered from its last byte on: what is put stands before `from`, and the answer is where it begins.
 // By hand: of a `write!` that answers an error nothing is known, so just when the line is refused could not be told.
-fn push_whole(line: &mut Line, n: u64)
-    requires { array_vec_len line.old + length (decimal n) ≤ LINE_LIMIT }
-    ensures { line.new.items ≡ line.old.items ++ decimal n }
+fn put(bytes: &mut [u8], from: usize, byte: u8) -> usize
+    requires { (0 < from) × (from ≤ length bytes.old) }
+    ensures from { result + 1 ≡ from }
+    ensures text { drop result bytes.new ≡ byte ∷ drop from bytes.old }
 {
-    if n < 10 {
-        line.push(b'0' + n as u8);
-    } else {
-        push_whole(line, n / 10);
-        line.push(b'0' + (n % 10) as u8);
-    }
+    bytes[from - 1] = byte;
+    from - 1
 }
 
-fn push_digits(line: &mut Line, n: u64, count: u32)
-    requires { array_vec_len line.old + count ≤ LINE_LIMIT }
-    ensures { line.new.items ≡ line.old.items ++ last_digits count n }
+// The last digits of `n`, and what stands before them in `n`.
+fn put_digits(bytes: &mut [u8], from: usize, n: u64, count: usize) -> (usize, u64)
+    requires { (count ≤ from) × (from ≤ length bytes.old) }
+    ensures from { result.0 + count ≡ from }
+    ensures text { drop result.0 bytes.new ≡ last_digits count n ++ drop from bytes.old }
+    ensures whole { result.1 ≡ n / 10 ^ count }
 {
-    if count > 0 {
-        push_digits(line, n / 10, count - 1);
-        line.push(b'0' + (n % 10) as u8);
+    let mut start = from;
+    let mut whole = n;
+    for _k in 0..count {
+        start = put(bytes, start, b'0' + (whole % 10) as u8);
+        whole /= 10;
     }
+    (start, whole)
 }
 
-fn push_fraction(line: &mut Line, n: u64, count: u32)
-    requires { array_vec_len line.old + (1 + count) ≤ LINE_LIMIT }
-    ensures { line.new.items ≡ line.old.items ++ fraction count n }
+fn put_whole(bytes: &mut [u8], from: usize, n: u64) -> usize
+    requires { (20 ≤ from) × (from ≤ length bytes.old) }
+    ensures from { result ≤ from }
+    ensures text { drop result bytes.new ≡ decimal n ++ drop from bytes.old }
 {
-    if count > 0 {
-        line.push(b',');
-        push_digits(line, n, count);
+    let mut start = from;
+    let mut rest = n;
+    while rest >= 10 {
+        start = put(bytes, start, b'0' + (rest % 10) as u8);
+        rest /= 10;
     }
+    put(bytes, start, b'0' + rest as u8)
 }
 
 // A figure with its decimals, and the byte that ends it.
@@ -81,8 +83,14 @@ impl Cell {
         ensures text { line.new.items ≡ line.old.items ++ cell self }
         ensures within { array_vec_len line.new ≤ array_vec_len line.old + 33 }
     {
-        push_whole(line, self.value / self.places.scale());
-        push_fraction(line, self.value, self.places.count());
-        line.push(self.end);
+        let mut bytes = [0; 33];
+        let count = self.places.count() as usize;
+        let end = put(&mut bytes, 33, self.end);
+        let (mut from, whole) = put_digits(&mut bytes, end, self.value, count);
+        if count > 0 {
+            from = put(&mut bytes, from, b',');
+        }
+        let start = put_whole(&mut bytes, from, whole);
+        line.try_extend_from_slice(&bytes[start..]).unwrap();
     }
 }

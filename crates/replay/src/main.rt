@@ -43,7 +43,7 @@ from that line on is run.
 Exit status: 0 where the life was run to its end, 1 where it was not.";
 
 // The status tells whether the life is run to its end.
-fn replay(rt: &HostRuntime, life: &str, bytes: &[u8]) -> anyhow::Result<ExitCode> {
+fn replay(rt: &HostRuntime, life: &str, bytes: Vec<u8>) -> anyhow::Result<ExitCode> {
     let text = text_of(rt.alloc(), bytes)?;
     let script = read_script(rt.alloc(), &Beside { rt, life }, text.as_str());
     let mut out = String::new(rt.alloc());
@@ -70,7 +70,7 @@ fn replay_all(rt: &HostRuntime, files: &[String]) -> anyhow::Result<ExitCode> {
             println!(rt; "# {file}")?;
         }
         let status = match fs::read(rt, file.as_str()) {
-            Ok(bytes) => replay(rt, file.as_str(), bytes.as_slice())?,
+            Ok(bytes) => replay(rt, file.as_str(), bytes)?,
             // Told here: an error that is passed on keeps a text only in part.
             Err(e) => {
                 eprintln!(rt; "replay: {file} cannot be read: {e}")?;
@@ -91,7 +91,7 @@ fn run(rt: &HostRuntime) -> anyhow::Result<ExitCode> {
             println!(rt; "{HELP}")?;
             Ok(ExitCode::SUCCESS)
         }
-        Asked::Input => replay(rt, "", read_whole(rt.alloc(), rt.stdin())?.as_slice()),
+        Asked::Input => replay(rt, "", read_whole(rt.alloc(), rt.stdin())?),
         Asked::Files(files) => replay_all(rt, files),
     }
 }

@@ -6,7 +6,8 @@ use std::fs;
 use std::path::Path;
 
 // Each byte as one character: one that is not ASCII stays such, and its line is found wrong when its turn comes.
-pub fn text_of(heap: Global, bytes: &[u8]) -> Result<String, AllocError> {
+// The bytes are taken, so that a life that runs does not hold its file twice.
+pub fn text_of(heap: Global, bytes: Vec<u8>) -> Result<String, AllocError> {
     bytes.iter().map(|byte| *byte as char).collect(heap)
 }
 

@@ -1,5 +1,5 @@
 -- The search for history days, on the lists of the definitions.
-use Rattle.std.proofs.Common.{◌≡◌, ℕ, zero, suc, ◌+◌, ◌-◌, ◌<◌, ◌≤◌, Bool, true, false, cond, ◌&&◌, ltb, List, [], ◌∷◌, ◌++◌, length, take, Some, None, Ok, Err, filter, Option, sym, refl, ap, ◌∙◌, subst, inl, inr, add-zero, arith}
+use Rattle.std.proofs.Common.{◌≡◌, ℕ, zero, suc, ◌+◌, ◌-◌, ◌<◌, ◌≤◌, Bool, true, false, cond, ◌&&◌, ltb, List, [], ◌∷◌, ◌++◌, length, take, Some, None, Ok, Err, filter, Option, sym, refl, ap, ◌∙◌, subst, inl, inr, add-zero, arith, length-append}
 use Rattle.std.specs.List.{list_all, range_with_len}
 use Rattle.std.proofs.lemmas.List.{append_assoc, append-nil, map_push, length-map}
 use Rattle.std.proofs.lemmas.Bool.{cases_lt, lt-ltb, le-ltb}
@@ -12,7 +12,7 @@ use Rattle.ledger.specs.Words.{at, is_measured, measured_in, counting, days_befo
 use Rattle.ledger.specs.Settling.{Held, latest}
 use Rattle.settling.specs.declared.history_day.HistoryDay.{HistoryDay}
 use Rattle.settling.specs.Placed.{Placed}
-use Rattle.settling.specs.History.{FoundDay, NextDay, Kept, days_of, passing}
+use Rattle.settling.specs.History.{Added, Tried, NextDay, Kept, days_of, passing}
 
 -- whether a reading that may be missing is a measured one
 abbrev pub is_number : Option Reading → Bool
@@ -76,23 +76,25 @@ passing_yes t low n h y = ap (filter t) (before_more low n h) ∙ simp y
 pub passing_no : (t : ℕ → Bool) (low n : ℕ) → low < n → t (n - 1) ≡ false → passing t low n ≡ passing t low (n - 1)
 passing_no t low n h y = ap (filter t) (before_more low n h) ∙ simp y
 
--- the day below n, where it passes
-pub next_is : (t : ℕ → Bool) (held : Held) (low before n : ℕ) (x : HistoryDay) → low < n → n ≤ before → passing t low before ≡ passing t low n → FoundDay (t (n - 1)) held (n - 1) (Some x) → NextDay t held low before x
-next_is t held low before n x h l e f =
-    let d = f.1 in
-    record {
-      above = omega arith;
-      below = omega arith;
-      rest = e ∙ (passing_yes t low n h f.0 ∙ ap (λ (m : ℕ). m ∷ passing t low m) (sym d));
-      curve_is = ap held d ∙ f.2;
-    }
+-- the day below n, where it passes: added to a history that was as it is until then
+pub next_is : (t : ℕ → Bool) (held : Held) (low before n : ℕ) (old mid new : List HistoryDay) → low < n → n ≤ before → passing t low before ≡ passing t low n → mid ≡ old → Tried (t (n - 1)) held (n - 1) mid new true → NextDay t held low before old new (n - 1)
+next_is t held low before n old mid new h l e s f =
+    let A : List HistoryDay → Type 0 = λ xs. Added held (n - 1) xs new in
+    record { above = omega arith; below = omega arith; rest = e ∙ passing_yes t low n h f.0; added = subst A s f.1 }
+
+-- one more day
+added_days : (held : Held) (d : ℕ) (xs ys : List HistoryDay) → Added held d xs ys → days_of ys ≡ days_of xs ++ (d ∷ [])
+added_days held d xs ys a = ap days_of a.items ∙ (map_push (λ (y : HistoryDay). y.day) xs a.one ∙ ap (λ (m : ℕ). days_of xs ++ (m ∷ [])) a.day_is)
+
+pub added_count : (held : Held) (d : ℕ) (xs ys : List HistoryDay) → Added held d xs ys → length ys ≡ length xs + 1
+added_count held d xs ys a = ap length a.items ∙ simp length-append
 
 -- the days found, then what is still to come
-pub found_more : (t : ℕ → Bool) (xs : List HistoryDay) (all : List ℕ) (n k low b : ℕ) (x : HistoryDay) → k < n → days_of xs ++ take (n - k) (passing t low b) ≡ all → passing t low b ≡ x.day ∷ passing t low x.day → days_of (xs ++ (x ∷ [])) ++ take (n - (k + 1)) (passing t low x.day) ≡ all
-found_more t xs all n k low b x h inv e =
+pub found_more : (t : ℕ → Bool) (held : Held) (xs ys : List HistoryDay) (all : List ℕ) (n k low b d : ℕ) → k < n → days_of xs ++ take (n - k) (passing t low b) ≡ all → passing t low b ≡ d ∷ passing t low d → Added held d xs ys → days_of ys ++ take (n - (k + 1)) (passing t low d) ≡ all
+found_more t held xs ys all n k low b d h inv e a =
     let m : n - k ≡ suc (n - (k + 1)) = omega arith in
-    let s : take (n - k) (passing t low b) ≡ x.day ∷ take (n - (k + 1)) (passing t low x.day) = ap (λ (ys : List ℕ). take (n - k) ys) e ∙ rw m refl in
-    ap (λ (ys : List ℕ). ys ++ take (n - (k + 1)) (passing t low x.day)) (map_push (λ (y : HistoryDay). y.day) xs x) ∙ (append_assoc (days_of xs) (x.day ∷ []) (take (n - (k + 1)) (passing t low x.day)) ∙ (sym (ap (λ (ys : List ℕ). days_of xs ++ ys) s) ∙ inv))
+    let s : take (n - k) (passing t low b) ≡ d ∷ take (n - (k + 1)) (passing t low d) = ap (λ (ds : List ℕ). take (n - k) ds) e ∙ rw m refl in
+    ap (λ (ds : List ℕ). ds ++ take (n - (k + 1)) (passing t low d)) (added_days held d xs ys a) ∙ (append_assoc (days_of xs) (d ∷ []) (take (n - (k + 1)) (passing t low d)) ∙ (sym (ap (λ (ds : List ℕ). days_of xs ++ ds) s) ∙ inv))
 
 pub found_all : (t : ℕ → Bool) (xs all : List ℕ) (n k low b : ℕ) → n ≤ k → xs ++ take (n - k) (passing t low b) ≡ all → xs ≡ all
 found_all t xs all n k low b h inv = let e : n - k ≡ 0 = omega arith in sym (append-nil xs) ∙ (rw e at inv)
@@ -128,9 +130,12 @@ pub latest_are : (r n : ℕ) (t : ℕ → Bool) (d low : ℕ) (xs : List ℕ) �
 latest_are r n t d low xs e p l = enough r n xs _ (back t n d low xs e p) (le-ltb _ _ (omega (arith, l)))
 
 -- one more day, with the curve held for it
-pub kept_more : (held : Held) (xs : List HistoryDay) (x : HistoryDay) → Kept held xs → held x.day ≡ Some x.curve → Kept held (xs ++ (x ∷ []))
-kept_more held [] x k e = (e, tt)
-kept_more held (y ∷ ys) x k e = (k.0, kept_more held ys x k.1 e)
+kept_end : (held : Held) (xs : List HistoryDay) (x : HistoryDay) → Kept held xs → held x.day ≡ Some x.curve → Kept held (xs ++ (x ∷ []))
+kept_end held [] x k e = (e, tt)
+kept_end held (y ∷ ys) x k e = (k.0, kept_end held ys x k.1 e)
+
+pub kept_more : (held : Held) (d : ℕ) (xs ys : List HistoryDay) → Kept held xs → Added held d xs ys → Kept held ys
+kept_more held d xs ys k a = subst (Kept held) (sym a.items) (kept_end held xs a.one k (ap held a.day_is ∙ a.curve_is))
 
 pub length_days : (xs : List HistoryDay) (n : ℕ) → length xs ≡ n → length (days_of xs) ≡ n
 length_days xs n e = length-map xs (λ x. x.day) ∙ e

@@ -1,7 +1,5 @@
 -- The search for history days, and what the sums over them keep to.
-use Rattle.std.specs.Prelude.{◌≡◌, ℕ, ◌-◌, ◌<◌, ◌≤◌, Bool, true, false, List, [], ◌∷◌, ◌++◌, map, ℤ, pos, ◌-ℤ◌, neg_ℤ, ◌≤ℤ◌, Some, None, Ok, Err, filter, Option, Result}
-use Rattle.arrayvec.specs.ArrayVec.{ArrayVec}
-use Rattle.ledger.specs.declared.fault.BookFault.{BookFault}
+use Rattle.std.specs.Prelude.{◌≡◌, ℕ, ◌-◌, ◌<◌, ◌≤◌, Bool, true, false, List, [], ◌∷◌, ◌++◌, map, ℤ, pos, ◌-ℤ◌, neg_ℤ, ◌≤ℤ◌, Some, None, Ok, Err, filter, Option}
 use Rattle.ledger.specs.declared.terms.Terms.{Terms}
 use Rattle.ledger.specs.declared.records.Order.{Order}
 use Rattle.ledger.specs.declared.records.Booked.{Booked}
@@ -26,17 +24,29 @@ abbrev pub FoundOn : Bool → Option Curve → Option Curve → Type 0
 FoundOn passes held None = passes ≡ false
 FoundOn passes held (Some c) = (passes ≡ true) × (held ≡ Some c)
 
--- a day with the curve held for it, where the day passes
-abbrev pub FoundDay : Bool → Held → ℕ → Option HistoryDay → Type 0
-FoundDay passes held day None = passes ≡ false
-FoundDay passes held day (Some x) = (passes ≡ true) × (x.day ≡ day) × (held day ≡ Some x.curve)
+-- a history with one more day, under the curve held for it
+pub record Added (held : Held) (day : ℕ) (old new : List HistoryDay) : Type 0 where
+  pub one : HistoryDay
+  pub day_is : one.day ≡ day
+  pub curve_is : held day ≡ Some one.curve
+  pub items : new ≡ old ++ (one ∷ [])
 
--- the latest day that passes, with the curve held for it
-pub record NextDay (test : ℕ → Bool) (held : Held) (low before : ℕ) (x : HistoryDay) : Type 0 where
-  pub above : low ≤ x.day
-  pub below : x.day < before
-  pub rest : passing test low before ≡ x.day ∷ passing test low x.day
-  pub curve_is : held x.day ≡ Some x.curve
+-- a day added to a history where the day passes, and the history as it was where it does not
+abbrev pub Tried : Bool → Held → ℕ → List HistoryDay → List HistoryDay → Bool → Type 0
+Tried passes held day old new false = (passes ≡ false) × (new ≡ old)
+Tried passes held day old new true = (passes ≡ true) × Added held day old new
+
+-- no day passes, and the history is as it was
+pub record NoDay (test : ℕ → Bool) (low before : ℕ) (old new : List HistoryDay) : Type 0 where
+  pub none : passing test low before ≡ []
+  pub same : new ≡ old
+
+-- the latest day that passes, added with the curve held for it
+pub record NextDay (test : ℕ → Bool) (held : Held) (low before : ℕ) (old new : List HistoryDay) (day : ℕ) : Type 0 where
+  pub above : low ≤ day
+  pub below : day < before
+  pub rest : passing test low before ≡ day ∷ passing test low day
+  pub added : Added held day old new
 
 -- each curve is the one held for its day
 abbrev pub Kept : Held → List HistoryDay → Type 0
@@ -46,9 +56,10 @@ Kept held (x ∷ xs) = (held x.day ≡ Some x.curve) × Kept held xs
 abbrev pub days_of : List HistoryDay → List ℕ
 days_of xs = map (λ x. x.day) xs
 
-abbrev pub days_in : Result (ArrayVec HistoryDay) BookFault → Granted (List ℕ)
-days_in (Ok v) = Ok (days_of v.items)
-days_in (Err e) = Err e
+-- the days that the vector lent holds, or the refusal
+abbrev pub days_in : Granted (Unit {0}) → List HistoryDay → Granted (List ℕ)
+days_in (Ok u) xs = Ok (days_of xs)
+days_in (Err e) xs = Err e
 
 -- the three sums: a quarter over the days, or over the curves found for them, and the lead quarters on the day
 abbrev pub summed : Held → List ℕ → ℕ → ℤ

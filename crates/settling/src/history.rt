@@ -1,8 +1,9 @@
 // The history of an order at one resource: which days can stand in it, and the latest of them.
-ghost use Rattle.std.specs.Prelude.{◌≡◌, ℕ, ◌≤◌, [], ◌++◌, IfOk, MatchOption};
+ghost use Rattle.std.specs.Prelude.{◌≡◌, ℕ, ◌<◌, ◌≤◌, ◌++◌, OnOk, MatchOption};
+ghost use Rattle.arrayvec.specs.ArrayVec.{array_vec_len};
 ghost use Rattle.ledger.specs.Words.{measured_in, lead, ordered};
 ghost use Rattle.ledger.specs.Settling.{is_whole, needs, latest as latest_of};
-ghost use Rattle.settling.specs.History.{FoundOn, FoundDay, NextDay, Kept, fits, passing, days_in};
+ghost use Rattle.settling.specs.History.{FoundOn, Tried, NoDay, NextDay, Kept, fits, days_in};
 
 use crate::context::OrderContext;
 use crate::history_day::{History, HistoryDay};
@@ -36,26 +37,37 @@ impl<S: Store, R: Rulebook> OrderContext<'_, S, R> {
         self.is_clean(&curve).then_some(curve)
     }
 
-    // A day that can stand in the history; the store is asked last, since a look-up can be a pass over a whole journal.
-    fn qualifying(&self, resource: u32, day: u32) -> Option<HistoryDay>
-        ensures { FoundDay (fits self.now.terms.now ((S.Store.model self.now.store.now).look resource) self.now.booked.now self.now.order day) ((S.Store.model self.now.store.now).look resource) day result }
+    // Adds a day with its curve, where one is held and clean; apart from the tests of the day, since a call clears room for a curve.
+    fn add_clean(&self, resource: u32, day: u32, history: &mut History) -> bool
+        requires { array_vec_len history.old < 15 }
+        ensures { Tried (is_whole ((S.Store.model self.now.store.now).look resource day) (lead self.now.order ++ ordered self.now.order)) ((S.Store.model self.now.store.now).look resource) day history.old.items history.new.items result }
     {
-        if in_kinds(self.terms, day) && !is_busy(self.booked, day) {
-            let curve = self.clean_curve(resource, day)?;
-            Some(HistoryDay { day, curve })
-        } else {
-            None
-        }
+        let Some(curve) = self.clean_curve(resource, day) else {
+            return false;
+        };
+        history.push(HistoryDay { day, curve });
+        true
     }
 
-    // The latest day that qualifies, before one day and not before another.
-    // A loop: of `find_map` on a reversed range, the days passed over would have to be walked by hand, longer than here.
-    fn next_day(&self, resource: u32, low: u32, before: u32) -> Option<HistoryDay>
-        ensures { MatchOption result (passing (fits self.now.terms.now ((S.Store.model self.now.store.now).look resource) self.now.booked.now self.now.order) low before ≡ []) (NextDay (fits self.now.terms.now ((S.Store.model self.now.store.now).look resource) self.now.booked.now self.now.order) ((S.Store.model self.now.store.now).look resource) low before) }
+    // Adds a day that can stand in the history; the store is asked last, since a look-up can be a pass over a whole journal.
+    fn add_qualifying(&self, resource: u32, day: u32, history: &mut History) -> bool
+        requires { array_vec_len history.old < 15 }
+        ensures { Tried (fits self.now.terms.now ((S.Store.model self.now.store.now).look resource) self.now.booked.now self.now.order day) ((S.Store.model self.now.store.now).look resource) day history.old.items history.new.items result }
+    {
+        in_kinds(self.terms, day)
+            && !is_busy(self.booked, day)
+            && self.add_clean(resource, day, history)
+    }
+
+    // The latest day that qualifies, before one day and not before another: added with its curve, and answered.
+    // A loop, since it adds to the history: of a closure that changes what it captures, nothing would be known.
+    fn next_day(&self, resource: u32, low: u32, before: u32, history: &mut History) -> Option<u32>
+        requires { array_vec_len history.old < 15 }
+        ensures { MatchOption result (NoDay (fits self.now.terms.now ((S.Store.model self.now.store.now).look resource) self.now.booked.now self.now.order) low before history.old.items history.new.items) (NextDay (fits self.now.terms.now ((S.Store.model self.now.store.now).look resource) self.now.booked.now self.now.order) ((S.Store.model self.now.store.now).look resource) low before history.old.items history.new.items) }
     {
         for day in (low..before).rev() {
-            if let Some(found) = self.qualifying(resource, day) {
-                return Some(found);
+            if self.add_qualifying(resource, day, history) {
+                return Some(day);
             }
         }
         None
@@ -69,26 +81,29 @@ impl<S: Store, R: Rulebook> OrderContext<'_, S, R> {
         self.rules.days(one.resource.choice).map_or(0, usize::from)
     }
 
-    // The latest days that qualify, as many as are needed, of the 400 before the order's; refused with the number found
-    // where there are fewer.
-    pub(crate) fn latest(&self, one: NumberedResource) -> Result<History, BookFault>
-        ensures days { days_in result ≡ latest_of one.number (needs (R.Rulebook.rules self.now.rules.now) one.resource) (fits self.now.terms.now ((S.Store.model self.now.store.now).look one.number) self.now.booked.now self.now.order) self.now.order.day }
-        ensures curves { IfOk result (λ x. Kept ((S.Store.model self.now.store.now).look one.number) x.items) }
+    // The latest days that qualify, as many as are needed, of the 400 before the order's, in place of those of the vector lent;
+    // refused with the number found where there are fewer.
+    pub(crate) fn latest(
+        &self,
+        one: NumberedResource,
+        history: &mut History,
+    ) -> Result<(), BookFault>
+        ensures days { days_in result history.new.items ≡ latest_of one.number (needs (R.Rulebook.rules self.now.rules.now) one.resource) (fits self.now.terms.now ((S.Store.model self.now.store.now).look one.number) self.now.booked.now self.now.order) self.now.order.day }
+        ensures curves { OnOk result (Kept ((S.Store.model self.now.store.now).look one.number) history.new.items) }
     {
         let low = self.order.day.saturating_sub(REACH);
         let n = self.days_needed(one);
-        let mut days = History::new();
         let mut before = self.order.day;
+        history.clear();
         for _ in 0..n {
-            let Some(next) = self.next_day(one.number, low, before) else {
+            let Some(next) = self.next_day(one.number, low, before, history) else {
                 return Err(BookFault::ShortHistory {
                     resource: one.number,
-                    found: days.len() as u32,
+                    found: history.len() as u32,
                 });
             };
-            before = next.day;
-            days.push(next);
+            before = next;
         }
-        Ok(days)
+        Ok(())
     }
 }

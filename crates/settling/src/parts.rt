@@ -58,8 +58,8 @@ impl<S: Store, R: Rulebook> OrderContext<'_, S, R> {
         })
     }
 
-    // By its history, or by its power where a quarter of the day is estimated.
-    fn settle_one(&self, one: NumberedResource) -> Result<Settled, BookFault>
+    // By its history, or by its power where a quarter of the day is estimated. The vector is lent, since making one fills it.
+    fn settle_one(&self, one: NumberedResource, history: &mut History) -> Result<Settled, BookFault>
         ensures value { result ≡ given (part self.now.terms.now (R.Rulebook.rules self.now.rules.now) ((S.Store.model self.now.store.now).look one.number) (busy_on (orders_in self.now.booked.now)) self.now.order one.number one.resource) }
         ensures within { NearSettled 1056000000 result }
     {
@@ -74,8 +74,8 @@ impl<S: Store, R: Rulebook> OrderContext<'_, S, R> {
         let Some(today) = self.clean_curve(one.number, day) else {
             return Ok(self.by_power(one));
         };
-        let history = self.latest(one)?;
-        self.by_history(one, &today, &history)
+        self.latest(one, history)?;
+        self.by_history(one, &today, history)
     }
 
     // Every resource in rising number; the first refusal ends it and leaves the sheet as it was.
@@ -88,13 +88,17 @@ impl<S: Store, R: Rulebook> OrderContext<'_, S, R> {
         ensures size { IfOk result (λ x. is_modest (Some x) ≡ true) }
     {
         let mut rows = ArrayVec::<i32, 608>::new();
+        let mut history = History::new();
         let mut sum = 0;
         let mut estimated = false;
         for (number, resource) in resources.iter().enumerate() {
-            let one = self.settle_one(NumberedResource {
-                number: number as u32,
-                resource: *resource,
-            })?;
+            let one = self.settle_one(
+                NumberedResource {
+                    number: number as u32,
+                    resource: *resource,
+                },
+                &mut history,
+            )?;
             let row = one.evidence.unwrap_or([0; 19]);
             rows.try_extend_from_slice(&row).unwrap();
             sum += one.amount;

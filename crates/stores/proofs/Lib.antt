@@ -4,5 +4,5 @@ mod Ringed
 pub mod Writing
 pub mod Filled
 mod Counting
-mod Backward
+mod Ends
 mod Alone

@@ -33,12 +33,14 @@ pub record Admitted (m : StoreModel) (r d : ℕ) : Type 0 where
   pub above : m.floor ≤ d
   pub free : m.look r d ≡ None
 
-pub admitted : (m : StoreModel) (r d w f : ℕ) (h : Bool) → w ≡ m.width → f ≡ m.floor → h ≡ is_some (m.look r d) → Ok tt ≡ admission w f h r d → Admitted m r d
+-- whether the curve is held need only be told where no other test refuses
+pub admitted : (m : StoreModel) (r d w f : ℕ) (h : Bool) → w ≡ m.width → f ≡ m.floor → (admission w f false r d ≡ Ok tt → h ≡ is_some (m.look r d)) → Ok tt ≡ admission w f h r d → Admitted m r d
 admitted m r d w f h ew ef eh a =
     let t = chain_ok (nat_lt 36524 d) (nat_le w r) (nat_lt d f) h Day (Resource r d) (UnderFloor r d) (Held r d) (sym a) in
     let x = leb-false w r t.1 in
     let y = ltb-false d f t.2 in
-    record { last = ltb-false _ _ t.0; resource = omega arith; above = omega arith; free = not_held _ (sym eh ∙ t.3) }
+    let held = eh (ap (λ (b : Bool). admission w f b r d) (sym t.3) ∙ sym a) in
+    record { last = ltb-false _ _ t.0; resource = omega arith; above = omega arith; free = not_held _ (sym held ∙ t.3) }
   where
     not_held : {X : Type 0} (o : Option X) → is_some o ≡ false → o ≡ None
     not_held None e = refl

@@ -87,8 +87,13 @@ impl<S: Store + Drop> Store for Keeper<S> {
         ensures refused { is_ok result ≡ false → self.new.below ≡ self.old.below }
         ensures spans { (self.new.span ≡ self.old.span) × ((S.Store.model self.new.below).span ≡ (S.Store.model self.old.below).span) }
     {
-        let held = self.below.holds(resource, day);
-        admit(self.below.width(), self.below.floor(), held, resource, day)?;
+        admit(
+            self.below.width(),
+            self.below.floor(),
+            || self.below.holds(resource, day),
+            resource,
+            day,
+        )?;
         let span = self.span.min(self.below.span());
         let floor = self.below.floor().max((day + 1).saturating_sub(span));
         if self.below.held_from(floor) >= self.below.capacity() {

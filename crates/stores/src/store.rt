@@ -1,5 +1,5 @@
 // What every store of curves does, said by its meaning alone.
-ghost use Rattle.std.specs.Prelude.{◌≡◌, ℕ, is_some};
+ghost use Rattle.std.specs.Prelude.{◌≡◌, ℕ, Bool, false, is_some, Ok};
 ghost use Rattle.stores.specs.Model.{StoreModel, Bounded, held_from, put_answer, after_put, drop_answer, after_drop, reading_held};
 ghost use Rattle.stores.specs.Verdicts.{admission};
 
@@ -63,15 +63,17 @@ pub(crate) fn check_day(day: u32) -> Result<(), StoreFault>
 }
 
 // What every store tests before a put; whether there is room is for each to say. Numbers and no store, since a put that handed its
-// own store on would be called by itself.
-pub(crate) fn admit(
+// own store on would be called by itself. Whether the curve is held is asked last, and only where nothing else refuses, since the
+// answer may take a search of the whole store.
+pub(crate) fn admit<F: FnOnce() -> bool>(
     width: u32,
     floor: u32,
-    held: bool,
+    is_held: F,
     resource: u32,
     day: u32,
 ) -> Result<(), StoreFault>
-    ensures { result ≡ admission width floor held resource day }
+    requires { F.pre is_held }
+    ensures { (held : Bool) × (admission width floor false resource day ≡ Ok tt → F.post is_held held) × (result ≡ admission width floor held resource day) }
 {
     check_day(day)?;
     if resource >= width {
@@ -80,7 +82,7 @@ pub(crate) fn admit(
     if day < floor {
         return Err(StoreFault::UnderFloor { resource, day });
     }
-    if held {
+    if is_held() {
         return Err(StoreFault::Held { resource, day });
     }
     Ok(())

@@ -61,8 +61,13 @@ impl Store for Journal {
         ensures rows { rows_of self.new ≡ (if is_ok result then rows_of self.old ++ (row_of resource day curve.now ∷ []) else rows_of self.old) }
         ensures memory { memory_of self.new ≡ (if is_ok result then layout (rows_of self.old ++ (row_of resource day curve.now ∷ [])) (length (memory_of self.old)) else memory_of self.old) }
     {
-        let held = self.holds(resource, day);
-        admit(self.width, self.floor, held, resource, day)?;
+        admit(
+            self.width,
+            self.floor,
+            || self.holds(resource, day),
+            resource,
+            day,
+        )?;
         let rows = self.rows;
         if rows >= self.capacity as usize {
             return Err(StoreFault::Full { resource, day });

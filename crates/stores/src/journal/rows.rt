@@ -2,7 +2,7 @@
 ghost use Rattle.std.specs.Prelude.{◌≡◌, ℕ, ◌+◌, ◌-◌, ◌*◌, ◌<◌, ◌≤◌, List, ◌∷◌, ◌++◌, length, take, drop, replicate, Some, None, filter, MatchOption};
 ghost use Rattle.metering.specs.Curves.{curve_of};
 ghost use Rattle.stores.specs.Journals.{memory_of, rows_of, row_of};
-ghost use Rattle.stores.specs.Rows.{two, reading_bytes, row_bytes, written, word_at, reading_from, day_from, row_at, rows_in, held_in, since};
+ghost use Rattle.stores.specs.Rows.{two, reading_bytes, row_bytes, written, word_at, reading_from, day_from, row_at, rows_in, is_of, held_in, since};
 
 use crate::journal::Journal;
 use crate::word::{reading_from, word_of};
@@ -17,6 +17,21 @@ fn day_at(bytes: &[u8], at: usize) -> u32
     ensures { result ≡ day_from bytes.now at }
 {
     u32::from(u16::from_be_bytes([bytes[at + 1], bytes[at + 2]]))
+}
+
+fn resource_at(bytes: &[u8], at: usize) -> u32
+    requires { at + 387 ≤ length bytes.now }
+    ensures { result ≡ (row_at bytes.now at).resource }
+{
+    u32::from(bytes[at])
+}
+
+// Whether the row that begins here has this resource and day.
+fn is_of(bytes: &[u8], at: usize, resource: u32, day: u32) -> bool
+    requires { at + 387 ≤ length bytes.now }
+    ensures { result ≡ is_of resource day (row_at bytes.now at) }
+{
+    resource_at(bytes, at) == resource && day_at(bytes, at) == day
 }
 
 pub(super) fn reading_at(bytes: &[u8], at: usize) -> Reading
@@ -36,13 +51,27 @@ pub(super) fn curve_at(bytes: &[u8], at: usize) -> Curve
 
 // Rows by their number and not by `chunks_exact(ROW)`: what the bytes mean is said of the row of a number.
 impl Journal {
-    // Which row has this resource and day: looked for from the last row on, since the days asked for were mostly put of late.
+    // Which row has this resource and day: looked for from both ends in turn, since curves are put in either direction of time,
+    // and what was put first or last is to be found soon.
     pub(super) fn find_row(&self, resource: u32, day: u32) -> Option<usize>
         ensures { MatchOption result (held_in (rows_of self.now) resource day ≡ None) (λ i. (i < self.now.rows) × (held_in (rows_of self.now) resource day ≡ Some (curve_of (row_at (memory_of self.now) (387 * i)).readings))) }
     {
         let bytes = self.bytes.as_slice();
-        (0..self.rows).rev().find(|&i| u32::from(bytes[ROW * i]) == resource
-            && day_at(bytes, ROW * i) == day)
+        for first in 0..self.rows.div_ceil(2) {
+            let last = self.rows - 1 - first;
+            // `|` and not `||`: most rows are of other resources, and so one jump passes two of them
+            let either = (resource_at(bytes, ROW * last) == resource)
+                | (resource_at(bytes, ROW * first) == resource);
+            if either {
+                if is_of(bytes, ROW * last, resource, day) {
+                    return Some(last);
+                }
+                if is_of(bytes, ROW * first, resource, day) {
+                    return Some(first);
+                }
+            }
+        }
+        None
     }
 
     // How many rows are for this day or a later one.

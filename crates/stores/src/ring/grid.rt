@@ -92,7 +92,8 @@ impl Grid {
     fn count_row(&self, resource: u32, first: u32, end: u32) -> u32
         requires resource { resource < self.now.rows }
         requires end { end ≤ 36525 }
-        ensures { result ≡ sum_below (λ k. (if nat_le first k then one (ring_look self.now.rows self.now.span self.now.words.items resource k) else 0)) end }
+        ensures is { result ≡ sum_below (λ k. (if nat_le first k then one (ring_look self.now.rows self.now.span self.now.words.items resource k) else 0)) end }
+        ensures few { result ≤ end }
     {
         let held = (first..end).filter(|&day| self.is_day(self.slot(resource, day), day));
         held.count() as u32

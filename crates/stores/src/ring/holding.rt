@@ -77,8 +77,13 @@ impl Store for Ring {
         ensures after { model_of self.new ≡ after_put (model_of self.old) resource day curve.now }
         ensures refused { is_ok result ≡ false → words_of self.new ≡ words_of self.old }
     {
-        let held = self.holds(resource, day);
-        admit(self.width(), self.floor, held, resource, day)?;
+        admit(
+            self.width(),
+            self.floor,
+            || self.holds(resource, day),
+            resource,
+            day,
+        )?;
         if self.grid.rows == 0 {
             return Err(StoreFault::Full { resource, day });
         }

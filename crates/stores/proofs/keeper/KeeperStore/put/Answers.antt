@@ -1,4 +1,4 @@
-use Rattle.std.proofs.Common.{◌≡◌, ℕ, ◌+◌, ◌-◌, ◌<◌, min, max, true, is_ok, Err, Result, sym, refl, ap, ◌∙◌, arith}
+use Rattle.std.proofs.Common.{◌≡◌, ℕ, ◌+◌, ◌-◌, ◌<◌, min, max, true, is_ok, Err, Result, sym, refl, ap, ◌∙◌, rules, arith}
 use Rattle.std.proofs.lemmas.Bool.{both_ways}
 use Rattle.stores.specs.declared.fault.StoreFault.{StoreFault}
 use Rattle.stores.specs.declared.fault.StoreFault.TheVariants.{Full}
@@ -13,8 +13,9 @@ use Rattle.stores.proofs.keeper.KeeperStore.put.Goals.{After-capacity}
 -- what the tests tell of the store below
 told : (g : Over) (c : After-capacity g) → Admitted (g.S.Store.model c.args.self.now.below) c.args.resource c.args.day
 told g c =
-    admitted (g.S.Store.model c.args.self.now.below) c.args.resource c.args.day c.width.result c.floor.result c.holds-held.result
-    c.width.ensures c.floor.ensures c.holds-held.ensures (c.in_ok-admit.ensures)
+    let e = c.in_ok-admit.ensures in
+    admitted (g.S.Store.model c.args.self.now.below) c.args.resource c.args.day c.width.result c.floor.result e.0
+    c.width.ensures c.floor.ensures (λ q. let p = e.1 q in search rules) e.2
 
 floor_is : (g : Over) (c : After-capacity g) → c.max-floor.result ≡ new_floor (kept c.args.self.now.span (g.S.Store.model c.args.self.now.below)) c.args.day
 floor_is g c =

@@ -1,4 +1,4 @@
-use Rattle.std.proofs.Common.{◌≡◌, ℕ, ◌+◌, ◌*◌, ◌<◌, Bool, true, cond, leb, List, ◌++◌, length, take, drop, Ok, Err, sym, refl, ap, ◌∙◌, subst, arith}
+use Rattle.std.proofs.Common.{◌≡◌, ℕ, ◌+◌, ◌*◌, ◌<◌, Bool, true, cond, leb, List, ◌++◌, length, take, drop, Ok, Err, sym, refl, ap, ◌∙◌, subst, rules, arith}
 use Rattle.std.proofs.lemmas.List.{take_at}
 use Rattle.std.proofs.lemmas.Bool.{le-leb, lt-leb}
 use Rattle.metering.specs.declared.curve.Curve.{Curve}
@@ -20,7 +20,9 @@ answer j r d a =
     put_room (model_of j) r d a ∙ ap (λ (b : Bool). cond b (Err (Full r d)) (Ok tt)) (full_test _ j.width j.capacity j.floor j.rows d (standing j) a.last)
 
 told : (c : In_ok-admit) → Admitted (model_of c.args.self.now) c.args.resource c.args.day
-told c = admitted (model_of c.args.self.now) c.args.resource c.args.day _ _ c.holds-held.result refl refl c.holds-held.ensures (c.in_ok-admit.ensures)
+told c =
+    let e = c.in_ok-admit.ensures in
+    admitted (model_of c.args.self.now) c.args.resource c.args.day _ _ e.0 refl refl (λ q. let p = e.1 q in search rules) e.2
 
 pub returns-then-rows-self : goal.returns-then-rows-self
 returns-then-rows-self c =

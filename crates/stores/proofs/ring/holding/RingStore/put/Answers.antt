@@ -1,4 +1,4 @@
-use Rattle.std.proofs.Common.{◌≡◌, ℕ, ◌+◌, ◌-◌, ◌*◌, ◌%◌, ◌<◌, ◌≤◌, max, Ok, sym, refl, ap, ◌∙◌, subst, arith}
+use Rattle.std.proofs.Common.{◌≡◌, ℕ, ◌+◌, ◌-◌, ◌*◌, ◌%◌, ◌<◌, ◌≤◌, max, Ok, sym, refl, ap, ◌∙◌, subst, rules, arith}
 use Rattle.stores.specs.Model.{StoreModel, cut_under, gained, put_answer, held_from}
 use Rattle.stores.specs.Slots.{slot_at, ring_look, Means}
 use Rattle.stores.specs.Ring.{ring_model, model_of}
@@ -21,7 +21,8 @@ record Told (m : StoreModel) (rows r d to : ℕ) : Type 0 where
 told : (c : After-max-floor) → Told (model_of c.args.self.now) c.args.self.now.grid.rows c.args.resource c.args.day c.max-floor.result
 told c =
     let s = c.args.self.now in
-    let a = admitted (model_of s) c.args.resource c.args.day c.width.result s.floor c.holds-held.result c.width.ensures refl c.holds-held.ensures (c.in_ok-admit.ensures) in
+    let e = c.in_ok-admit.ensures in
+    let a = admitted (model_of s) c.args.resource c.args.day c.width.result s.floor e.0 c.width.ensures refl (λ q. let p = e.1 q in search rules) e.2 in
     let r = a.resource in
     let f = a.above in
     let n = c.if-self-eq0.false in
