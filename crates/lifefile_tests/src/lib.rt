@@ -158,7 +158,7 @@ fn month(rt: HostRuntime) -> Result<(), Fail> {
     Ok(())
 }
 
-// A refusal alone is told in the same line as the fault that it came from; one of no known number is told too.
+// A refusal alone is told in the same line as the fault that it came from; one that no book raises is told too.
 #[test]
 fn refused(rt: HostRuntime) -> Result<(), Fail> {
     for (fault, line) in [

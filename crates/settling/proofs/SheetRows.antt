@@ -1,20 +1,12 @@
 -- The parts of all resources, one further.
-use Rattle.std.proofs.Common.{◌≡◌, ℕ, ◌+◌, ◌*◌, ◌<◌, ◌≤◌, Bool, true, false, cond, not, ◌||◌, List, [], ◌∷◌, ◌++◌, length, get_or, drop, replicate, ℤ, pos, ◌+ℤ◌, ◌==◌, nat_lt, is_some, is_none, unwrap_or, Option, Some, None, Ok, Err, sym, refl, ap, ◌∙◌, add-one, arith}
+use Rattle.std.proofs.Common.{◌≡◌, ℕ, ◌+◌, ◌<◌, ◌≤◌, Bool, true, false, cond, not, ◌||◌, List, [], ◌∷◌, ◌++◌, length, get_or, drop, replicate, ℤ, pos, ◌+ℤ◌, is_some, is_none, unwrap_or, Option, Some, None, Ok, Err, sym, refl, ap, ◌∙◌, add-one, arith}
 use Rattle.std.proofs.lemmas.List.{drop_more, drop_all, append_assoc, append-nil}
-use Rattle.rulebooks.specs.Rules.{Rules}
-use Rattle.std.proofs.lemmas.Bool.{le-ltb}
 use Rattle.ledger.specs.declared.fault.BookFault.{BookFault}
-use Rattle.ledger.specs.declared.fault.BookFault.TheVariants.{Number, NoCurve, ShortMemory}
-use Rattle.ledger.specs.declared.terms.Terms.{Terms}
-use Rattle.ledger.specs.declared.records.Booked.{Booked}
-use Rattle.ledger.specs.declared.records.Order.{Order}
 use Rattle.ledger.specs.declared.records.Resource.{Resource}
 use Rattle.settling.specs.declared.settled.Settled.{Settled}
-use Rattle.ledger.specs.Book.{orders_in, busy_on}
-use Rattle.ledger.specs.Words.{Granted, ◌>>=◌, unless, each}
-use Rattle.ledger.specs.Settling.{Held, Part, parts, numbered_from, sum_of, any_estimated, evidence, evidence_row}
+use Rattle.ledger.specs.Words.{Granted, ◌>>=◌, each}
+use Rattle.ledger.specs.Settling.{Part, numbered_from, sum_of, any_estimated, evidence, evidence_row}
 use Rattle.settling.specs.Evidence.{given}
-use Rattle.settling.specs.Sheets.{can_settle, order_parts}
 use Rattle.settling.proofs.Totals.{total_push}
 
 evidence_push : (ps : List Part) (p : Part) → evidence (ps ++ (p ∷ [])) ≡ evidence ps ++ evidence_row p
@@ -131,18 +123,3 @@ pub along_end : (f : ℕ × Resource → Granted Part) (all : Granted (List Part
     → all ≡ (each f (numbered_from i (drop i xs)) >>= (λ qs. Ok (ps ++ qs))) → all ≡ Ok ps
 along_end f all xs i ps h p =
     p ∙ (ap (λ (ys : List Resource). each f (numbered_from i ys) >>= (λ qs. Ok (ps ++ qs))) (drop_all i xs h) ∙ ap (λ (qs : List Part). Ok qs) (append-nil ps))
-
-not_held : {A : Type 0} (m : Option A) → false ≡ is_some m → m ≡ None
-not_held None e = refl
-not_held (Some x) e = cc
-
-missing_of : (t : Terms) (R : Rules) (look : ℕ → Held) (busy : ℕ → Bool) (xs : List Resource) (o : Order) → false ≡ (length xs == 0) → false ≡ is_some (look 0 o.day) → parts t R look busy xs o ≡ Err (NoCurve 0 o.day)
-missing_of t R look busy [] o h e = cc
-missing_of t R look busy (x ∷ xs) o h e = rw (not_held (look 0 o.day) e) refl
-
--- no curve of the day at the first resource
-pub first_missing : (t : Terms) (R : Rules) (look : ℕ → Held) (os : List Booked) (xs : List Resource) (o : Order) (words : ℕ) → true ≡ can_settle xs o → 19 * length xs ≤ words → false ≡ (length xs == 0) → false ≡ is_some (look 0 o.day) → order_parts t R look os xs o words ≡ Err (NoCurve 0 o.day)
-first_missing t R look os xs o words a b h e =
-    let m = missing_of t R look (busy_on (orders_in os)) xs o h e in
-    ap (λ (v : Bool). unless (not v) Number >>= (λ _. unless (nat_lt words (19 * length xs)) ShortMemory >>= (λ _. parts t R look (busy_on (orders_in os)) xs o))) (sym a)
-    ∙ (ap (λ (v : Bool). unless v ShortMemory >>= (λ _. parts t R look (busy_on (orders_in os)) xs o)) (le-ltb words (19 * length xs) b) ∙ m)

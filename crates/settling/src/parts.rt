@@ -58,8 +58,13 @@ impl<S: Store, R: Rulebook> OrderContext<'_, S, R> {
         })
     }
 
-    // By its history, or by its power where a quarter of the day is estimated. The vector is lent, since making one fills it.
-    fn settle_one(&self, one: NumberedResource, history: &mut History) -> Result<Settled, BookFault>
+    // By its history, or by its power where a quarter of the day is estimated. The vector is lent and made but once, when the first
+    // is asked for, since making one fills it.
+    fn settle_one(
+        &self,
+        one: NumberedResource,
+        lent: &mut Option<History>,
+    ) -> Result<Settled, BookFault>
         ensures value { result ≡ given (part self.now.terms.now (R.Rulebook.rules self.now.rules.now) ((S.Store.model self.now.store.now).look one.number) (busy_on (orders_in self.now.booked.now)) self.now.order one.number one.resource) }
         ensures within { NearSettled 1056000000 result }
     {
@@ -74,6 +79,7 @@ impl<S: Store, R: Rulebook> OrderContext<'_, S, R> {
         let Some(today) = self.clean_curve(one.number, day) else {
             return Ok(self.by_power(one));
         };
+        let history = lent.get_or_insert_with(History::new);
         self.latest(one, history)?;
         self.by_history(one, &today, history)
     }
@@ -88,7 +94,7 @@ impl<S: Store, R: Rulebook> OrderContext<'_, S, R> {
         ensures size { IfOk result (λ x. is_modest (Some x) ≡ true) }
     {
         let mut rows = ArrayVec::<i32, 608>::new();
-        let mut history = History::new();
+        let mut history = None;
         let mut sum = 0;
         let mut estimated = false;
         for (number, resource) in resources.iter().enumerate() {

@@ -62,8 +62,8 @@ pub(crate) fn check_day(day: u32) -> Result<(), StoreFault>
     Ok(())
 }
 
-// What every store tests before a put; whether there is room is for each to say. Numbers and no store, since a put that handed its
-// own store on would be called by itself. Whether the curve is held is asked last, and only where nothing else refuses, since the
+// What every store tests before a put; whether there is room is for each to say. Numbers and a closure but no store, since a put that
+// handed its own store on would be called by itself. Whether the curve is held is asked last, and only where nothing else refuses, since the
 // answer may take a search of the whole store.
 pub(crate) fn admit<F: FnOnce() -> bool>(
     width: u32,

@@ -59,7 +59,7 @@ impl Journal {
         let bytes = self.bytes.as_slice();
         for first in 0..self.rows.div_ceil(2) {
             let last = self.rows - 1 - first;
-            // `|` and not `||`: most rows are of other resources, and so one jump passes two of them
+            // With `|` and not `||`: most rows are of other resources, and so one jump passes two of them.
             let either = (resource_at(bytes, ROW * last) == resource)
                 | (resource_at(bytes, ROW * first) == resource);
             if either {
