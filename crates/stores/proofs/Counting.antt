@@ -1,7 +1,8 @@
 -- Numbers of a range that pass a test, and sums over a range.
 use Rattle.std.proofs.Common.{◌≡◌, ℕ, zero, suc, ◌+◌, ◌-◌, ◌≤◌, Bool, true, false, cond, List, [], ◌∷◌, length, map, filter, leb, Option, sym, refl, ap, ◌∙◌, inl, inr, add-one, add-zero, arith}
 use Rattle.std.specs.List.{range_with_len, sum}
-use Rattle.std.proofs.lemmas.List.FromFn.{sum_by-map-range_with_len_more}
+use Rattle.std.proofs.lemmas.List.FromFn.{length-range_with_len, sum_by-map-range_with_len_more}
+use Rattle.std.proofs.lemmas.List.Sums.{length-filter, sum-map, count_by-le-length}
 use Rattle.std.proofs.lemmas.Bool.{cases_lt, le-leb, cond-true}
 use Rattle.metering.specs.declared.curve.Curve.{Curve}
 use Rattle.stores.specs.Model.{sum_below, one}
@@ -14,6 +15,17 @@ length_filter_map p f (k ∷ ks) =
     let e = length_filter_map p f ks in
     elim (p (f k)) as (λ b. length (cond b (f k ∷ filter p (map f ks)) (filter p (map f ks))) ≡ length (cond b (k ∷ filter (λ j. p (f j)) ks) (filter (λ j. p (f j)) ks)))
     [ true ↦ ap suc e | false ↦ e ]
+
+-- a range's numbers that pass, counted as a sum of ones
+pub ones_of : (test : ℕ → Bool) (a n : ℕ) → sum (map (λ k. cond (test k) 1 0) (range_with_len a n)) ≡ length (filter test (range_with_len a n))
+ones_of test a n = sum-map (λ k. cond (test k) 1 0) (range_with_len a n) ∙ sym (length-filter test (range_with_len a n))
+
+pub few_ones : (test : ℕ → Bool) (a n : ℕ) → sum (map (λ k. cond (test k) 1 0) (range_with_len a n)) ≤ n
+few_ones test a n =
+    let s = sum-map (λ k. cond (test k) 1 0) (range_with_len a n) in
+    let c = count_by-le-length test (range_with_len a n) in
+    let l = length-range_with_len a n in
+    omega (arith, s, c, l)
 
 -- the days of a range that are held are those that a sum counts
 held_days : (first : ℕ) (look : ℕ → Option Curve) (test : ℕ → Bool) → ((k : ℕ) → one (look k) ≡ cond (test k) 1 0)

@@ -79,10 +79,10 @@ impl Journal {
         ensures { result ≡ length (filter (since day) (rows_of self.now)) }
     {
         let bytes = self.bytes.as_slice();
-        let count = (0..self.rows)
-            .filter(|&i| day_at(bytes, ROW * i) >= day)
-            .count();
-        count as u32
+        // A sum and no count of those that pass: a build then takes several rows at once.
+        (0..self.rows)
+            .map(|i| u32::from(day_at(bytes, ROW * i) >= day))
+            .sum()
     }
 }
 
